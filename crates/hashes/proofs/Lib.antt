@@ -1,0 +1,2 @@
+-- Laws of records that the functions' proofs cite.
+mod Laying

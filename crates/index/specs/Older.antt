@@ -1,0 +1,58 @@
+-- The oldest k contexts of a store.
+use mathlib.Core.Path.{_≡_, refl, sym, _∙_}
+use mathlib.Core.Bool.{true, false}
+use mathlib.Core.List.{List, [], _∷_}
+use Prim.Native.Nat.{ℕ, zero, suc, _<_, _≤_}
+use native.Mathlib.Omega.{arith}
+use lib.Dec.{ltb}
+use lib.ListN.{length}
+use borrow.Author.Tests.{lt-ltb, le-ltb}
+use Rattle.stacks.specs.Compare.{two}
+use Rattle.arena.specs.Store.{Node, Store, nodeAt, Sound}
+use Rattle.arena.specs.Trees.{node-new, node-old}
+use Rattle.layout.specs.Decode.{nodeIn, storeIn, store-length}
+
+unfoldable pub older : Store → ℕ → Store
+older [] k = []
+older (n ∷ s) k = elim (ltb (length s) k) [ true ↦ n ∷ s | false ↦ older s k ]
+
+pub older-all : (s : Store) (k : ℕ) → length s ≤ k → older s k ≡ s
+unfolding older
+older-all [] k h = refl
+older-all (n ∷ s) k h = rw (lt-ltb (length s) k (omega arith), older)
+
+pub older-part : (n : Node) (s : Store) (k : ℕ) → k ≤ length s → older (n ∷ s) k ≡ older s k
+unfolding older
+older-part n s k h = rw (le-ltb (length s) k h, older)
+
+pub older-length : (s : Store) (k : ℕ) → k ≤ length s → length (older s k) ≡ k
+unfolding older
+older-length [] k h = omega arith
+older-length (n ∷ s) k h =
+    two k (suc (length s))
+    (λ e. rw (older-all (n ∷ s) k (omega arith)) (sym e))
+    (λ d. rw (older-part n s k (omega arith)) (older-length s k (omega arith)))
+
+pub older-next : (s : Store) (c : ℕ) → c < length s → older s (suc c) ≡ nodeAt s c ∷ older s c
+older-next [] c h = absurd (omega arith)
+older-next (n ∷ s) c h =
+    two c (length s)
+    (λ e. rw (older-all (n ∷ s) (suc c) (omega arith), node-new n s c e, older-part n s c (omega arith), older-all s c (omega arith)))
+    (λ d. rw (older-part n s (suc c) (omega arith), node-old n s c (omega arith), older-part n s c (omega arith)) (older-next s c (omega arith)))
+
+pub older-sound : (s : Store) (k : ℕ) → Sound s → k ≤ length s → Sound (older s k)
+older-sound [] k w h = rw (older-all [] k (omega arith)) tt
+older-sound (n ∷ s) k w h =
+    two k (suc (length s))
+    (λ e. rw (older-all (n ∷ s) k (omega arith)) w)
+    (λ d. rw (older-part n s k (omega arith)) (older-sound s k (w .3) (omega arith)))
+
+-- the first k records of words
+pub older-words : (w : List ℕ) (n k : ℕ) → k ≤ n → older (storeIn w n) k ≡ storeIn w k
+unfolding storeIn
+older-words w zero k h = let z : k ≡ 0 = omega arith in rw z (older-all [] 0 (omega arith))
+older-words w (suc n) k h =
+    let l : length (storeIn w n) ≡ n = store-length w n in
+    two k (suc n)
+    (λ e. rw e (older-all (storeIn w (suc n)) (suc n) (omega (arith, store-length w (suc n)))))
+    (λ d. older-part (nodeIn w n) (storeIn w n) k (omega arith) ∙ older-words w n k (omega arith))

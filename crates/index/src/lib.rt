@@ -1,0 +1,31 @@
+// The index over a store's records, in the scratch: hashes, chains by bucket, and lookup of the
+// entries that stand on the stack. All of it is internal: callers keep `Records` and `Indexed`.
+mod add;
+mod find;
+mod hash;
+mod places;
+mod reads;
+mod stack;
+
+pub use add::add_to_index;
+pub use add::clear_heads;
+pub use find::Lookup;
+pub use find::find_interned;
+pub use hash::entries_hash;
+pub use places::HEADS;
+pub use places::PARENTS;
+pub use places::RECORDS;
+pub use places::SCRATCH_WORDS;
+pub use places::STATES;
+pub use places::STORE_WORDS;
+pub use reads::count_of;
+pub use reads::first_of;
+pub use reads::kind_of;
+pub use reads::pool_parent;
+pub use reads::pool_state;
+pub use reads::second_of;
+pub use reads::stack_parent;
+pub use reads::stack_state;
+pub use reads::used_of;
+pub use stack::load_entries;
+pub use stack::put_entry;

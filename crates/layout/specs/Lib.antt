@@ -1,0 +1,6 @@
+-- The words of a store. To believe: Layout, Decode, Sound, Encode.
+pub mod Layout
+pub mod Listing
+pub mod Decode
+pub mod Sound
+pub mod Encode

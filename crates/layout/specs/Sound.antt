@@ -1,0 +1,59 @@
+-- Soundness of a store's words, as document 01 lists it, clause by clause and in that order.
+use mathlib.Core.Path.{_≡_}
+use mathlib.Core.Logic.{_⊎_}
+use mathlib.Core.List.{List}
+use Prim.Native.Nat.{ℕ, zero, suc, _<_, _≤_, _+_, _*_}
+use lib.ListN.{length, getD}
+use Rattle.layout.specs.Layout.{stop, mostContexts, mostEntries, count, used, kind, first, second, parent, state}
+
+-- p is a parent of record c: a singleton's, or that of an array's entry
+pub data Parent (w : List ℕ) (c : ℕ) : ℕ → Type 0 where
+  ofSingleton : kind w c ≡ 1 → Parent w c (first w c)
+  ofEntry : kind w c ≡ 2 → (j : ℕ) → j < second w c → Parent w c (parent w (first w c + j))
+
+-- the pool entries of the arrays among the first c records
+unfoldable pub lengths : List ℕ → ℕ → ℕ
+lengths w zero = 0
+lengths w (suc c) = lengths w c + arrayLength (kind w c) (second w c)
+  where
+    arrayLength : ℕ → ℕ → ℕ
+    arrayLength zero b = 0
+    arrayLength (suc zero) b = 0
+    arrayLength (suc (suc k)) b = b
+
+-- two records have the same meaning field by field: singletons by parent and state, arrays by their entries
+pub record SameSingletons (w : List ℕ) (c d : ℕ) : Type 0 where
+  pub kinds : (kind w c ≡ 1) × (kind w d ≡ 1)
+  pub parents : first w c ≡ first w d
+  pub states : second w c ≡ second w d
+
+pub record SameArrays (w : List ℕ) (c d : ℕ) : Type 0 where
+  pub kinds : (kind w c ≡ 2) × (kind w d ≡ 2)
+  pub lengths : second w c ≡ second w d
+  pub parents : (j : ℕ) → j < second w c → parent w (first w c + j) ≡ parent w (first w d + j)
+  pub states : (j : ℕ) → j < second w c → state w (first w c + j) ≡ state w (first w d + j)
+
+pub record SoundWords (w : List ℕ) : Type 0 where
+  -- "Word 0 is the context count (1 to 512), word 1 the pool entries in use (0 to 2,048)"
+  pub counted : (1 ≤ count w) × (count w ≤ mostContexts) × (used w ≤ mostEntries)
+  -- "Kind 0 stands only in record 0, with a and b 0." "No other kind is sound."
+  pub root : (kind w 0 ≡ 0) × (first w 0 ≡ 0) × (second w 0 ≡ 0)
+  pub kinds : (c : ℕ) → 0 < c → c < count w → (kind w c ≡ 1) ⊎ (kind w c ≡ 2)
+  -- "each parent's number is below its child's"
+  pub older : (c p : ℕ) → c < count w → Parent w c p → p < c
+  -- "singleton states are at most 4294967294"
+  pub single : (c : ℕ) → c < count w → kind w c ≡ 1 → second w c ≤ 4294967294
+  -- "array lengths are at least 2, states rise strictly, a `$` has parent 0"; a state is a 32-bit word
+  pub long : (c : ℕ) → c < count w → kind w c ≡ 2 → 2 ≤ second w c
+  pub rise : (c j : ℕ) → c < count w → kind w c ≡ 2 → suc j < second w c → state w (first w c + j) < state w (first w c + suc j)
+  pub dollar : (c j : ℕ) → c < count w → kind w c ≡ 2 → j < second w c → state w (first w c + j) ≡ stop → parent w (first w c + j) ≡ 0
+  pub fit : (c j : ℕ) → c < count w → kind w c ≡ 2 → j < second w c → state w (first w c + j) ≤ stop
+  -- "arrays fill the pool in record order without gaps"
+  pub filled : (c : ℕ) → c < count w → kind w c ≡ 2 → first w c ≡ lengths w c
+  pub allUsed : used w ≡ lengths w (count w)
+  -- "no two records have the same meaning field by field (arrays by their entries)"
+  pub differ : (c d : ℕ) → c < d → d < count w → SameSingletons w c d ⊎ SameArrays w c d → ⊥
+  -- "all unused words are 0"
+  pub unusedRecords : (i : ℕ) → 2 + 3 * count w ≤ i → i < 1538 → getD w i 0 ≡ 0
+  pub unusedParents : (i : ℕ) → used w ≤ i → i < 2048 → parent w i ≡ 0
+  pub unusedStates : (i : ℕ) → used w ≤ i → i < 2048 → state w i ≡ 0

@@ -1,0 +1,3 @@
+-- The arithmetic behind the code, apart from any one function: bits of words, and products by halves.
+mod Bits
+mod Product

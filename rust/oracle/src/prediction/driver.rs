@@ -1,0 +1,223 @@
+//! Drives the runtime's arena and config set, and judges around them the refusals that they lack.
+//!
+//! A child of the runtime's file: it makes configs field by field, and takes contexts out again.
+#![warn(dead_code)]
+
+use super::{
+    AtnConfig, AtnConfigKey, AtnConfigSet, ContextArena, ContextId, EMPTY_RETURN_STATE, PredictionWorkspace,
+    SemanticContextId, has_sll_conflict_terminating_prediction, single_viable_alt,
+};
+use crate::record::{Config, Mode, Record};
+use crate::reply::{
+    BAD_STATE, NO_ROOM, READ_ONLY, Refusal, Reply, SET_FULL, TOO_MANY_STOPS, UNKNOWN_CONTEXT, Verdict,
+};
+
+pub const MOST_CONTEXTS: usize = 512;
+pub const MOST_ENTRIES: usize = 2_048;
+pub const MOST_CONFIGS: usize = 256;
+pub const MOST_STOPS: usize = 64;
+/// From this state on a return state is refused, but for the empty mark, 2^64 - 1.
+pub const FIRST_BAD_STATE: u64 = 4_294_967_295;
+pub const EMPTY_MARK: u64 = u64::MAX;
+
+/// A fresh store, an empty full-context set and no stop states; then whatever the records make of them.
+pub struct Machine {
+    pub(super) arena: ContextArena,
+    pub(super) set: AtnConfigSet,
+    workspace: PredictionWorkspace,
+    stops: Vec<u32>,
+}
+
+impl Default for Machine {
+    fn default() -> Self {
+        Self::new()
+    }
+}
+
+impl Machine {
+    pub fn new() -> Self {
+        Machine {
+            arena: ContextArena::new(),
+            set: AtnConfigSet::new_full_context(true),
+            workspace: PredictionWorkspace::default(),
+            stops: Vec::new(),
+        }
+    }
+
+    /// Contexts in the store.
+    pub fn contexts(&self) -> usize {
+        self.arena.records.len()
+    }
+
+    /// Pool entries in use.
+    pub fn entries(&self) -> usize {
+        self.arena.array_parents.len()
+    }
+
+    /// Configs in the set.
+    pub fn configs(&self) -> usize {
+        self.set.len()
+    }
+
+    /// The hash under which a context is interned.
+    pub fn hash(&self, context: u32) -> u64 {
+        self.arena.cached_hash(ContextId(context))
+    }
+
+    /// Different merges of the last call, the outermost one included: its cache starts empty.
+    pub fn merges_of_last_call(&self) -> usize {
+        self.workspace.merge_cache_len()
+    }
+
+    /// Runs one record; a refusal leaves store, set and stop list as they were.
+    pub fn call(&mut self, record: &Record) -> Result<Reply, Refusal> {
+        self.workspace.reset();
+        match record {
+            Record::Singleton { parent, state } => self.singleton(*parent, *state),
+            Record::Merge { left, right, mode } => self.merge(*left, *right, *mode),
+            Record::NewSet { mode } => Ok(self.new_set(*mode)),
+            Record::Add(config) => self.add(config),
+            Record::Stops(states) => self.set_stops(states),
+            Record::Verdict => Ok(Reply::Verdict(self.verdict())),
+            Record::Show { context } => self.show(*context),
+            Record::Close => Ok(self.close()),
+        }
+    }
+
+    fn singleton(&mut self, parent: u32, state: u64) -> Result<Reply, Refusal> {
+        let parent = self.known(parent)?;
+        if (FIRST_BAD_STATE..EMPTY_MARK).contains(&state) {
+            return Err(BAD_STATE);
+        }
+        let state = usize::try_from(state).expect("the oracle's host has 64 bits");
+        self.within_ceilings(|machine| machine.arena.singleton(parent, state))
+            .map(|context| Reply::Context(context.0))
+    }
+
+    fn merge(&mut self, left: u32, right: u32, mode: Mode) -> Result<Reply, Refusal> {
+        let left = self.known(left)?;
+        let right = self.known(right)?;
+        let wildcard = mode == Mode::Wildcard;
+        self.within_ceilings(|machine| {
+            let workspace = &mut machine.workspace;
+            machine.arena.merge(left, right, wildcard, workspace)
+        })
+        .map(|context| Reply::Context(context.0))
+    }
+
+    fn new_set(&mut self, mode: Mode) -> Reply {
+        self.set = AtnConfigSet::new_full_context(mode == Mode::Full);
+        Reply::NewSet
+    }
+
+    fn add(&mut self, config: &Config) -> Result<Reply, Refusal> {
+        if self.set.readonly {
+            return Err(READ_ONLY);
+        }
+        let context = self.known(config.context)?;
+        let config = self.config(config, context);
+        let place = self.set.config_index.get(&AtnConfigKey::from(&config)).copied();
+        if place.is_none() && self.set.len() == MOST_CONFIGS {
+            return Err(SET_FULL);
+        }
+        let before = place.map(|at| self.set.configs[at].clone());
+        let flags = (self.set.has_semantic_context, self.set.dips_into_outer_context);
+        let added = self.within_ceilings(|machine| {
+            let Machine { arena, set, workspace, .. } = machine;
+            set.add(config, arena, workspace)
+        });
+        // Only a merge with a known config can lack room.
+        if let (Err(_), Some(at), Some(before)) = (added, place, before) {
+            self.set.configs[at] = before;
+            (self.set.has_semantic_context, self.set.dips_into_outer_context) = flags;
+        }
+        added.map(|inserted| Reply::Added { inserted })
+    }
+
+    fn set_stops(&mut self, states: &[u32]) -> Result<Reply, Refusal> {
+        if states.len() > MOST_STOPS {
+            return Err(TOO_MANY_STOPS);
+        }
+        self.stops = states.to_vec();
+        Ok(Reply::Stops(self.stops.len()))
+    }
+
+    fn verdict(&mut self) -> Verdict {
+        let subsets = self.set.conflicting_alt_subsets();
+        let stops = &self.stops;
+        let is_stop = |state: usize| stops.iter().any(|&stop| narrow(state) == stop);
+        Verdict {
+            subsets: subsets.len(),
+            viable: single_viable_alt(&subsets).map(narrow),
+            terminates: has_sll_conflict_terminating_prediction(&self.set, is_stop),
+            unique: self.set.unique_alt().map(narrow),
+        }
+    }
+
+    fn show(&self, context: u32) -> Result<Reply, Refusal> {
+        let context = self.known(context)?;
+        let entry = |index| match self.arena.return_state(context, index) {
+            Some(EMPTY_RETURN_STATE) => None,
+            Some(state) => {
+                let parent = self.arena.parent(context, index);
+                parent.map(|parent| (narrow(state), parent.0))
+            }
+            None => unreachable!("an index below the length has an entry"),
+        };
+        Ok(Reply::Entries((0..self.arena.len(context)).map(entry).collect()))
+    }
+
+    fn close(&mut self) -> Reply {
+        self.set.set_readonly(true);
+        Reply::Closed
+    }
+
+    fn known(&self, context: u32) -> Result<ContextId, Refusal> {
+        match usize::try_from(context) {
+            Ok(number) if number < self.contexts() => Ok(ContextId(context)),
+            _ => Err(UNKNOWN_CONTEXT),
+        }
+    }
+
+    fn config(&self, words: &Config, context: ContextId) -> AtnConfig {
+        let mut config = AtnConfig::new(wide(words.state), wide(words.alternative), context, &self.arena);
+        config.semantic_context = SemanticContextId(words.semantic);
+        config.reaches_into_outer_context = wide(words.reach);
+        config.semantic_provenance_and_flags = words.provenance;
+        config
+    }
+
+    /// Runs a call in the arena, which has no ceilings; where it ends above one, takes out what it made.
+    fn within_ceilings<T>(&mut self, call: impl FnOnce(&mut Self) -> T) -> Result<T, Refusal> {
+        let (contexts, entries) = (self.contexts(), self.entries());
+        let answer = call(self);
+        if self.contexts() <= MOST_CONTEXTS && self.entries() <= MOST_ENTRIES {
+            return Ok(answer);
+        }
+        self.cut_back(contexts, entries);
+        Err(NO_ROOM)
+    }
+
+    /// Undoes the arena's `push_record`, newest first.
+    fn cut_back(&mut self, contexts: usize, entries: usize) {
+        let arena = &mut self.arena;
+        while arena.records.len() > contexts {
+            let record = arena.records.pop().expect("more records than before");
+            match arena.interner_next.pop().flatten() {
+                Some(older) => arena.interner_heads.insert(record.cached_hash, older),
+                None => arena.interner_heads.remove(&record.cached_hash),
+            };
+        }
+        arena.array_parents.truncate(entries);
+        arena.array_return_states.truncate(entries);
+    }
+}
+
+fn wide(word: u32) -> usize {
+    usize::try_from(word).expect("the oracle's host has 64 bits")
+}
+
+/// Every number in arena and set came from a word.
+pub(super) fn narrow(number: usize) -> u32 {
+    u32::try_from(number).expect("the number came from a word")
+}

@@ -1,0 +1,78 @@
+//! The line that answers a record.
+
+use std::fmt;
+
+/// A refusal's number in document 01's table.
+#[derive(Clone, Copy, Debug, Eq, PartialEq)]
+pub struct Refusal(pub u8);
+
+pub const UNKNOWN_CONTEXT: Refusal = Refusal(4);
+pub const BAD_STATE: Refusal = Refusal(5);
+pub const NO_ROOM: Refusal = Refusal(6);
+pub const READ_ONLY: Refusal = Refusal(7);
+pub const SET_FULL: Refusal = Refusal(8);
+pub const MALFORMED: Refusal = Refusal(9);
+pub const TOO_MANY_STOPS: Refusal = Refusal(10);
+
+#[derive(Clone, Debug, Eq, PartialEq)]
+pub enum Reply {
+    Context(u32),
+    NewSet,
+    Added {
+        inserted: bool,
+    },
+    Stops(usize),
+    Verdict(Verdict),
+    /// Each entry's state and parent; `None` is the empty stack.
+    Entries(Vec<Option<(u32, u32)>>),
+    Closed,
+}
+
+#[derive(Clone, Copy, Debug, Eq, PartialEq)]
+pub struct Verdict {
+    pub subsets: usize,
+    pub unique: Option<u32>,
+    pub viable: Option<u32>,
+    pub terminates: bool,
+}
+
+impl fmt::Display for Refusal {
+    fn fmt(&self, out: &mut fmt::Formatter<'_>) -> fmt::Result {
+        write!(out, "R {}", self.0)
+    }
+}
+
+impl fmt::Display for Reply {
+    fn fmt(&self, out: &mut fmt::Formatter<'_>) -> fmt::Result {
+        match self {
+            Reply::Context(number) => write!(out, "C {number}"),
+            Reply::NewSet => write!(out, "N"),
+            Reply::Added { inserted } => write!(out, "A {}", u8::from(*inserted)),
+            Reply::Stops(held) => write!(out, "S {held}"),
+            Reply::Verdict(verdict) => write!(out, "{verdict}"),
+            Reply::Entries(entries) => show_entries(entries, out),
+            Reply::Closed => write!(out, "K"),
+        }
+    }
+}
+
+impl fmt::Display for Verdict {
+    /// Where there is no alternative, 0 is printed.
+    fn fmt(&self, out: &mut fmt::Formatter<'_>) -> fmt::Result {
+        let unique = self.unique.unwrap_or(0);
+        let viable = self.viable.unwrap_or(0);
+        let terminates = u8::from(self.terminates);
+        write!(out, "V {} {unique} {viable} {terminates}", self.subsets)
+    }
+}
+
+fn show_entries(entries: &[Option<(u32, u32)>], out: &mut fmt::Formatter<'_>) -> fmt::Result {
+    write!(out, "E {}", entries.len())?;
+    for entry in entries {
+        match entry {
+            Some((state, parent)) => write!(out, " {state}>{parent}")?,
+            None => write!(out, " $")?,
+        }
+    }
+    Ok(())
+}

@@ -1,0 +1,131 @@
+//! The generator reaches what its families aim at.
+
+use std::collections::BTreeMap;
+
+use oracle::generate::{self, FAMILIES, alphabet};
+use oracle::prediction::driver::Machine;
+use oracle::record::{Kinds, Record, split};
+use oracle::run::run;
+use oracle::text;
+
+/// Runs lines that are all accepted, and answers the last one's context.
+fn context(machine: &mut Machine, lines: &str) -> u32 {
+    let script = text::assemble(lines).expect("good text");
+    let (records, _) = split(&script, Kinds::All);
+    let replies = records.iter().map(|record| machine.call(record));
+    let last = replies.last().expect("a record").expect("an accepted one").to_string();
+    last[2..].parse().expect("a context's number")
+}
+
+/// The lines end in two different contexts that have one hash.
+fn assert_collide(first: &str, second: &str) {
+    let mut machine = Machine::new();
+    let one = context(&mut machine, first);
+    let other = context(&mut machine, second);
+    assert_eq!(machine.hash(one), machine.hash(other), "{first} and {second}");
+    assert_ne!(one, other);
+}
+
+#[test]
+fn the_hash_collisions_are_real() {
+    assert_collide("singleton 0 52\nsingleton 1 1", "singleton 0 11975\nsingleton 3 515144035");
+    assert_collide("merge 0 0 full", "singleton 0 523633496\nsingleton 1 999192160");
+    assert_collide(
+        "singleton 0 41776\nsingleton 0 946387694\nmerge 1 2 full",
+        "singleton 0 160315\nsingleton 4 7",
+    );
+    assert_collide(
+        "singleton 0 7\nsingleton 0 1549421363\nmerge 1 2 full",
+        "singleton 0 1829705404\nmerge 3 4 full",
+    );
+    assert_collide(
+        "singleton 0 66550\nsingleton 0 1311049642\nmerge 1 2 full\nsingleton 0 2147483653\nmerge 3 4 full",
+        "singleton 0 963443\nsingleton 0 306341760\nmerge 6 7 full\nsingleton 0 2160661468\nmerge 8 9 full",
+    );
+    let mut machine = Machine::new();
+    assert_eq!(context(&mut machine, "singleton 0 523633496\nsingleton 1 999192160"), 2);
+    assert_eq!((machine.hash(2), machine.hash(0)), (0, 0));
+}
+
+/// Most different merges of one call over the scripts of a family, each accepted from start to end.
+fn most_merges(name: &str) -> usize {
+    let family = FAMILIES.iter().find(|family| family.name == name).expect("the family is there");
+    let mut most = 0;
+    for index in 0..20 {
+        let made = generate::script_of(family, 1, index, Kinds::Store);
+        let mut machine = Machine::new();
+        for record in &split(&made.script, Kinds::Store).0 {
+            machine.call(record).expect("every record of the family is accepted");
+            if matches!(record, Record::Merge { .. }) {
+                most = most.max(machine.merges_of_last_call());
+            }
+        }
+    }
+    most
+}
+
+#[test]
+fn accepted_merges_have_thousands_of_inner_pairs() {
+    let many = most_merges("many pairs");
+    assert!((3_601..=4_000).contains(&many), "at most {many} different merges in a call");
+    let too_many = most_merges("too many pairs");
+    assert!(too_many > 4_096, "at most {too_many} different merges in a call");
+    println!("many pairs: {many}; too many pairs: {too_many}");
+}
+
+#[test]
+fn the_ceilings_are_met_exactly() {
+    let (mut full_contexts, mut full_pools) = (0, 0);
+    for index in 0..2_000 {
+        let made = generate::script(2, index, Kinds::Store);
+        let machine = run(&made.script, Kinds::Store).machine;
+        full_contexts += usize::from(machine.contexts() == 512);
+        full_pools += usize::from(machine.entries() == 2_048);
+    }
+    assert!(full_contexts >= 20, "{full_contexts} full stores");
+    assert!(full_pools >= 10, "{full_pools} full pools");
+}
+
+#[test]
+fn every_reply_and_refusal_occurs() {
+    let mut seen = BTreeMap::<String, usize>::new();
+    for index in 0..4_000 {
+        let lines = run(&generate::script(3, index, Kinds::All).script, Kinds::All).lines;
+        for line in String::from_utf8(lines).expect("lines are text").lines() {
+            let refused = line.starts_with('R');
+            let sort = if refused { line } else { &line[..1] };
+            *seen.entry(sort.to_owned()).or_default() += 1;
+        }
+    }
+    for sort in ["A", "C", "E", "K", "N", "R 10", "R 4", "R 5", "R 6", "R 7", "R 8", "R 9", "S", "T", "V"] {
+        assert!(seen.get(sort).is_some_and(|&times| times >= 20), "{sort}: {seen:?}");
+    }
+}
+
+#[test]
+fn families_take_turns_and_seeds_repeat() {
+    let mut seen = BTreeMap::<&str, usize>::new();
+    for index in 0..400 {
+        let made = generate::script(4, index, Kinds::All);
+        assert!(made.script == generate::script(4, index, Kinds::All).script);
+        *seen.entry(made.family).or_default() += 1;
+    }
+    // One family is made by name alone.
+    assert_eq!(seen.len(), FAMILIES.len() - 1);
+}
+
+#[test]
+fn without_sets_no_other_kind_is_run() {
+    for index in 0..1_000 {
+        let made = generate::script(5, index, Kinds::Store);
+        let lines = run(&made.script, Kinds::Store).lines;
+        let known = |line: &str| matches!(&line[..1], "C" | "E" | "R" | "T");
+        assert!(String::from_utf8(lines).expect("lines are text").lines().all(known));
+    }
+}
+
+#[test]
+fn words_are_counted() {
+    assert_eq!(alphabet::words(3, Kinds::Store).len(), 1 + 18 + 18 * 18 + 18 * 18 * 18);
+    assert_eq!(alphabet::words(2, Kinds::All).len(), 1 + 2 * (18 + 18 * 18));
+}
