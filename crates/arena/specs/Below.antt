@@ -1,16 +1,13 @@
 -- States below a limit stay below it: merging and placing bring in no state of their own.
-use mathlib.Core.Path.{_≡_, refl}
 use mathlib.Core.Bool.{Bool}
 use mathlib.Core.List.{[], _∷_}
 use Prim.Native.Nat.{ℕ, _<_}
-use native.Mathlib.Omega.{arith}
 use lib.ListN.{length}
-use Rattle.stacks.specs.Compare.{two}
 use Rattle.stacks.specs.Forest.{Forest, none, mark, over}
 use Rattle.stacks.specs.Merge.{mergeE, mergeT, merge-less, merge-equal, merge-greater, mergeE-none}
 use Rattle.stacks.specs.Algebra.{by-merge, wild-cases}
-use Rattle.arena.specs.Store.{Node, end, dollar, push, Store, treeOf, tree, find}
-use Rattle.arena.specs.Trees.{find?, tree-new, tree-old}
+use Rattle.arena.specs.Store.{Node, end, dollar, push, Store, treeOf, tree}
+use Rattle.arena.specs.Trees.{find?}
 use Rattle.arena.specs.Place.{listed, intern, placeE, place}
 
 -- every state of the set, of the record, of the store, is below k

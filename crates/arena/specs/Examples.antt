@@ -1,7 +1,7 @@
 -- Document 01's P1 to P9, computed over the definitions. (P4, a refusal at the border, is the singleton call's.)
 use mathlib.Core.Path.{_≡_, refl}
-use mathlib.Core.Bool.{Bool, true, false}
-use mathlib.Core.List.{List, [], _∷_}
+use mathlib.Core.Bool.{true, false}
+use mathlib.Core.List.{[], _∷_}
 use Prim.Native.Nat.{ℕ}
 use Rattle.stacks.specs.Forest.{none, mark, over}
 use Rattle.stacks.specs.Merge.{isMark, wild, mergeE, mergeT}

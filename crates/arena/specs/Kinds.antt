@@ -1,9 +1,9 @@
 -- "An interned list of no entries, or of `$` alone, is context 0; of one other entry, a singleton; of two or more, an array."
-use mathlib.Core.Path.{_≡_, refl, sym, _∙_}
+use mathlib.Core.Path.{_≡_, refl}
 use Prim.Native.Nat.{ℕ, suc, _<_, _≤_}
 use native.Mathlib.Omega.{arith}
 use lib.ListN.{length}
-use Rattle.arena.specs.Store.{Node, end, dollar, push, Store, tree, nodeAt, at, find, Rise, Full, Sound}
+use Rattle.arena.specs.Store.{Node, end, dollar, push, Store, nodeAt, at, Rise, Full, Sound}
 use Rattle.arena.specs.Trees.{node-sound}
 use Rattle.arena.specs.Place.{listed, intern}
 use Rattle.arena.specs.Placed.{intern-self}

@@ -2,7 +2,7 @@
 use mathlib.Core.Path.{_≡_, refl, sym, ap, _∙_}
 use mathlib.Core.Bool.{Bool, true, false, _&&_, false≢true}
 use mathlib.Core.List.{List, [], _∷_, _++_}
-use Prim.Native.Nat.{ℕ, suc, _<_, _≤_}
+use Prim.Native.Nat.{ℕ, suc, _<_}
 use native.Mathlib.Omega.{arith}
 use lib.Dec.{eqb}
 use lib.ListN.{length}
@@ -11,10 +11,10 @@ use Rattle.stacks.specs.Compare.{two}
 use Rattle.stacks.specs.Forest.{Forest, none, mark, over, Some, From, Canon}
 use Rattle.stacks.specs.Merge.{mergeT}
 use Rattle.stacks.specs.Algebra.{canon-merge, some-merge}
-use Rattle.arena.specs.Store.{Node, Store, treeOf, tree, nodeAt, at, nowhere, find, Full, Sound}
+use Rattle.arena.specs.Store.{Node, Store, treeOf, tree, nodeAt, at, Full, Sound}
 use Rattle.arena.specs.Trees.{and-left, and-right, find?, find-at, find-none, node-rise, tree-new, tree-old, tree-node, tree-canon, tree-inj, treeOf-inj}
 use Rattle.arena.specs.Place.{intern, placeE, place, mergeS}
-use Rattle.arena.specs.Placed.{Holds, HoldsE, intern-found, intern-made, intern-holds, placeE-holds, full-of}
+use Rattle.arena.specs.Placed.{HoldsE, intern-found, intern-made, intern-holds, placeE-holds, full-of}
 
 -- the parts of a set in the order in which they are complete: beneath each top state, rising, its parts and then the set beneath it
 unfoldable pub inner : Forest → List Forest

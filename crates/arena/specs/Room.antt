@@ -1,12 +1,11 @@
 -- The room that a store takes, in contexts and in pool entries, only grows: code that stops at the first overflow is right.
-use mathlib.Core.Path.{_≡_, refl}
 use mathlib.Core.List.{[], _∷_, _++_}
 use Prim.Native.Nat.{ℕ, _≤_, _+_}
 use native.Mathlib.Omega.{arith}
 use lib.ListN.{length}
-use Rattle.arena.specs.Store.{Node, end, dollar, push, Store}
+use Rattle.arena.specs.Store.{Node, end, Store}
 use Rattle.arena.specs.Placed.{Grew, grew-length}
-use Rattle.arena.specs.Kinds.{Kind, context0, singleton, array, kindOf, size}
+use Rattle.arena.specs.Kinds.{context0, singleton, array, kindOf, size}
 
 -- the pool entries of a record: all entries of an array, none of any other
 unfoldable pub room : Node → ℕ

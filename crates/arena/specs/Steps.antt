@@ -1,12 +1,11 @@
 -- The merge of two contexts by number: the steps that merge code follows.
-use mathlib.Core.Path.{_≡_, refl, sym, ap, _∙_}
+use mathlib.Core.Path.{_≡_, refl, sym, ap}
 use mathlib.Core.Bool.{Bool, true, false}
-use mathlib.Core.List.{[], _∷_}
-use Prim.Native.Nat.{ℕ, suc, _<_, _≤_}
+use Prim.Native.Nat.{ℕ, suc, _<_}
 use native.Mathlib.Omega.{arith}
 use lib.ListN.{length}
-use Rattle.stacks.specs.Forest.{Forest, none, mark, over}
-use Rattle.stacks.specs.Merge.{isMark, mergeE, mergeT, merge-less, merge-equal, merge-greater, mergeE-none, mark-mergeT, mergeT-mark, mergeT-full, mergeT-plain}
+use Rattle.stacks.specs.Forest.{Forest, over}
+use Rattle.stacks.specs.Merge.{mergeE, mergeT, merge-less, merge-equal, merge-greater, mergeE-none, mark-mergeT, mergeT-mark, mergeT-full, mergeT-plain}
 use Rattle.stacks.specs.Algebra.{idem, comm, canon-merge, some-merge}
 use Rattle.arena.specs.Store.{Node, end, dollar, push, Store, treeOf, tree, nodeAt, Rise, Sound}
 use Rattle.arena.specs.Trees.{tree-node, tree-canon}

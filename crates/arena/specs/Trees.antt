@@ -1,5 +1,5 @@
 -- Records and the sets they stand for: appending keeps older ones, sets are canonical, and in a sound store equal sets have equal numbers.
-use mathlib.Core.Path.{_≡_, refl, sym, ap, _∙_}
+use mathlib.Core.Path.{_≡_, refl, sym, _∙_}
 use mathlib.Core.Bool.{Bool, true, false, _&&_, false≢true}
 use mathlib.Core.List.{[], _∷_}
 use Prim.Native.Nat.{ℕ, suc, _<_, _≤_}
@@ -8,7 +8,7 @@ use lib.Dec.{eqb}
 use lib.ListN.{length}
 use borrow.Author.Tests.{eq-eqb, ne-eqb, eqb-true}
 use Rattle.stacks.specs.Compare.{two}
-use Rattle.stacks.specs.Forest.{Forest, none, mark, over, Some, From, Canon}
+use Rattle.stacks.specs.Forest.{Forest, over, Some, From, Canon}
 use Rattle.arena.specs.Store.{Node, end, dollar, push, Store, treeOf, tree, nodeAt, same, Found, at, nowhere, find, Rise, Full, Sound}
 
 -- ---- equal records

@@ -2,7 +2,7 @@
 use mathlib.Core.Path.{_≡_, refl, sym, ap, _∙_}
 use mathlib.Core.Logic.{_≢_}
 use mathlib.Core.List.{List, [], _∷_}
-use Prim.Native.Nat.{ℕ, suc, _<_, _≤_, _+_, _*_, _/_, _%_, _^_}
+use Prim.Native.Nat.{ℕ, _<_, _≤_, _+_, _*_, _/_, _%_, _^_}
 use native.Mathlib.Omega.{arith}
 use native.Mathlib.Numerals.{add-one}
 use lib.ListN.{length, getD, set, length-set}
@@ -13,7 +13,7 @@ use Rattle.words.specs.Lent.Laws.{length-clearedRange, clearedRange-inside}
 use Rattle.arena.specs.Store.{Node, Store}
 use Rattle.layout.specs.Layout.{scratchWords, head, link, low, high, stackParent, stackState}
 use Rattle.index.specs.Hash.{hash, nodeHash, nodeHash-below, bucketOf, hash-new, hash-old}
-use Rattle.index.specs.Older.{older, older-all, older-part}
+use Rattle.index.specs.Older.{older-all, older-part}
 use Rattle.index.specs.Chain.{newest, newest-here, newest-older}
 use Rattle.index.specs.Index.{Indexed}
 use Rattle.index.specs.Stores.{putEntry, putIndex}

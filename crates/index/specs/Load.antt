@@ -1,11 +1,11 @@
 -- Entries copied to the stack one at a time, and what the stack then holds.
 use mathlib.Core.Path.{_≡_, refl, sym, ap, _∙_}
 use mathlib.Core.List.{List}
-use Prim.Native.Nat.{ℕ, suc, _<_, _≤_, _+_, _-_, _*_}
+use Prim.Native.Nat.{ℕ, suc, _<_, _≤_, _+_, _-_}
 use native.Mathlib.Omega.{arith}
-use lib.ListN.{length, getD}
+use lib.ListN.{length}
 use Rattle.stacks.specs.Compare.{two}
-use Rattle.layout.specs.Layout.{scratchWords, stop, parent, state, stackParent, stackState}
+use Rattle.layout.specs.Layout.{scratchWords, parent, state, stackParent, stackState}
 use Rattle.layout.specs.Listing.{listing, Entries, listing-agree}
 use Rattle.index.specs.Records.{Stacked, stackNode}
 use Rattle.index.specs.Stores.{putEntry, Loaded}

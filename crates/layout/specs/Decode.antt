@@ -1,9 +1,9 @@
 -- The store that words hold.
 use mathlib.Core.Path.{_≡_, refl, sym, ap, _∙_}
 use mathlib.Core.List.{List, [], _∷_}
-use Prim.Native.Nat.{ℕ, zero, suc, _<_, _≤_, _+_}
+use Prim.Native.Nat.{ℕ, zero, suc, _<_}
 use native.Mathlib.Omega.{arith}
-use lib.ListN.{length, getD}
+use lib.ListN.{length}
 use Rattle.stacks.specs.Compare.{two}
 use Rattle.arena.specs.Store.{Node, end, dollar, push, Store, nodeAt}
 use Rattle.arena.specs.Trees.{node-new, node-old}

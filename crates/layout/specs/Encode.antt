@@ -3,7 +3,7 @@ use mathlib.Core.List.{List, [], _∷_}
 use Prim.Native.Nat.{ℕ, suc, _≤_, _+_, _*_}
 use lib.ListN.{length, set}
 use Rattle.arena.specs.Store.{Node, end, dollar, push, Store}
-use Rattle.arena.specs.Kinds.{Kind, context0, singleton, array, kindOf, size}
+use Rattle.arena.specs.Kinds.{size}
 use Rattle.arena.specs.Room.{room, pool}
 use Rattle.layout.specs.Layout.{storeWords, mostContexts, mostEntries, stop, blank}
 

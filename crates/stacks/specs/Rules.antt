@@ -1,13 +1,13 @@
 -- Document 01's sentences on merges, about membership alone, and that they hold of `mergeT` and leave no choice.
 use mathlib.Core.Path.{_≡_, refl, sym, ap, _∙_, subst₃, fun-ext}
 use mathlib.Core.Logic.{_⊎_, inl, inr, ⊎-elim}
-use mathlib.Core.Bool.{Bool, true, false, _&&_, _||_, or-false, false≢true}
+use mathlib.Core.Bool.{Bool, true, false, _||_, false≢true}
 use mathlib.Core.List.{List, [], _∷_}
 use Prim.Native.Nat.{ℕ}
-use Rattle.stacks.specs.Forest.{Forest, none, mark, over, mem, Some, From, Canon}
+use Rattle.stacks.specs.Forest.{Forest, none, mark, over, mem, Canon}
 use Rattle.stacks.specs.Beneath.{under, under-canon, mem-under, by-under, first, mem-first, ext}
 use Rattle.stacks.specs.Merge.{isMark, mergeE, mergeT, mergeT-plain, mergeT-full, none-mergeT, mergeT-none, mark-mergeT, mergeT-mark}
-use Rattle.stacks.specs.Algebra.{mark?, under-merge, empty-merge, from-merge, canon-merge, some-merge}
+use Rattle.stacks.specs.Algebra.{mark?, under-merge, empty-merge, from-merge, canon-merge}
 
 -- a set of stacks, by which stacks are in it
 abbrev pub Stacks : Type 0

@@ -1,10 +1,9 @@
 -- Up to i the entries are copied; a turn copies one more, by `load-more`.
 use borrow.Author.Needs.{needs}
 use native.Mathlib.Omega.{arith}
-use mathlib.Core.Path.{_≡_, refl, sym, ap, _∙_}
-use Prim.Native.Nat.{ℕ, suc, _+_, _-_, _*_, _<_, _≤_}
+use mathlib.Core.Path.{_≡_}
+use Prim.Native.Nat.{_-_, _≤_}
 use lib.ListN.{length}
-use Rattle.layout.specs.Layout.{parent, state}
 use Rattle.index.specs.Stores.{Loaded}
 use Rattle.index.specs.Load.{load-none, load-more}
 use Rattle.index.proofs.stack.load_entries.Statement.{statement}

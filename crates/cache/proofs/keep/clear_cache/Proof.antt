@@ -1,0 +1,30 @@
+-- The cleared range and the store are those of `clearedCache`.
+use borrow.Author.Needs.{needs}
+use lib.ListN.{set}
+use mathlib.Core.List.{List}
+use mathlib.Core.Path.{ap}
+use Prim.Native.Nat.{ℕ}
+use Rattle.cache.specs.Cache.{clearedCache}
+use Rattle.cache.proofs.keep.clear_cache.Statement.{statement}
+use Rattle.cache.proofs.keep.clear_cache.Tie as tie
+
+add-clear-range : tie.Need-add-clear-range
+add-clear-range c = search needs
+
+clear-range-requires : tie.Need-clear-range-requires
+clear-range-requires c κs = search needs
+
+slice-write-scratch : tie.Need-slice-write-scratch
+slice-write-scratch c = search needs
+
+same-length : tie.Need-same-length
+same-length c = search needs
+
+returns : tie.Need-returns
+unfolding clearedCache
+returns c = ap (λ (t : List ℕ). set t 16336 0) (c .before .before .clear-range .ensures)
+
+pub clear-cache-spec : {M : Type 1} → statement M
+clear-cache-spec =
+    tie.close
+    (tie.spec add-clear-range clear-range-requires slice-write-scratch same-length returns)

@@ -1,0 +1,44 @@
+-- No entries or `$` alone are the empty context; anything else is looked up.
+use borrow.Author.Needs.{needs}
+use native.Mathlib.Omega.{arith}
+use mathlib.Core.Path.{sym, _∙_}
+use Rattle.contexts.specs.Making.{none-pushed, dollar-pushed, proper-of}
+use Rattle.contexts.proofs.intern.intern_entries.Statement.{statement}
+use Rattle.contexts.proofs.intern.intern_entries.Tie as tie
+
+returns : tie.Need-returns
+returns c = none-pushed (c .before .before .before .args .store .now) (c .before .before .before .args .scratch .now) (c .before .before .before .args .at) (c .before .before .before .args .n) (c .before .before .before .pre) (c .if1 .taken)
+
+stack-state-requires : tie.Need-stack-state-requires
+stack-state-requires c κs = (c .before .before .before .before .pre .stacked .sized, omega (arith, c .before .before .before .before .pre .stacked .room))
+
+same-length : tie.Need-same-length
+same-length c = search needs
+
+returns-2 : tie.Need-returns-2
+returns-2 c = dollar-pushed (c .before .before .before .before .before .before .args .store .now) (c .before .before .before .before .before .before .args .scratch .now) (c .before .before .before .before .before .before .args .at) (c .before .before .before .before .before .before .args .n) (c .before .before .before .before .before .before .pre) (c .before .before .before .if1 .left) (sym (c .before .stack-state .ensures) ∙ c .if2 .taken)
+
+intern-proper-requires : tie.Need-intern-proper-requires
+intern-proper-requires c κs = (c .before .before .before .before .before .before .before .before .pre, proper-of (c .before .before .before .before .before .before .before .before .args .store .now) (c .before .before .before .before .before .before .before .before .args .scratch .now) (c .before .before .before .before .before .before .before .before .args .at) (c .before .before .before .before .before .before .before .before .args .n) (c .before .before .before .before .before .before .before .before .pre) (c .before .before .before .before .before .if1 .left) (λ e. c .before .before .if2 .left (c .before .before .before .stack-state .ensures ∙ e)))
+
+same-length-2 : tie.Need-same-length-2
+same-length-2 c = search needs
+
+same-length-3 : tie.Need-same-length-3
+same-length-3 c = search needs
+
+returns-3 : tie.Need-returns-3
+returns-3 c = c .before .before .before .before .intern-proper .ensures
+
+pub intern-entries-spec : {M : Type 1} → statement M
+intern-entries-spec =
+    tie.close
+    (tie.spec
+    returns
+    stack-state-requires
+    same-length
+    returns-2
+    intern-proper-requires
+    same-length-2
+    same-length-3
+    returns-3)

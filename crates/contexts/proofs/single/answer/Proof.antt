@@ -1,0 +1,21 @@
+-- By cases.
+use borrow.Author.Needs.{needs}
+use mathlib.Core.Path.{sym, ap}
+use Rattle.contexts.specs.Replies.{madeReply}
+use Rattle.contexts.proofs.single.answer.Statement.{statement}
+use Rattle.contexts.proofs.single.answer.Tie as tie
+
+enum-known-made : tie.Need-enum-known-made
+enum-known-made c = search needs
+
+enum-told : tie.Need-enum-told
+enum-told c = search needs
+
+returns : tie.Need-returns
+returns c = ap madeReply (sym (c .before .made .given .1))
+
+returns-2 : tie.Need-returns-2
+returns-2 c = ap madeReply (sym (c .enum-told .given .1))
+
+pub answer-spec : {M : Type 1} → statement M
+answer-spec = tie.close (tie.spec enum-known-made enum-told returns returns-2)

@@ -1,0 +1,17 @@
+-- What the answers of this crate stand for.
+use Rattle.words.specs.Refusals.{number}
+use Rattle.store.specs.Calls.{Reply, refused, context}
+use Rattle.contexts.specs.declared.intern.Made.{Made}
+use Rattle.contexts.specs.declared.intern.Made.the-variants.{At, NoRoom}
+use Rattle.contexts.specs.declared.single.Numbered.{Numbered}
+use Rattle.contexts.specs.declared.single.Numbered.the-variants.{Number, Refused}
+
+-- a context's number, or a refusal's number
+abbrev pub numbered : Numbered → Reply
+numbered (Number c) = context (c .0)
+numbered (Refused f) = refused (number f)
+
+-- 6 where there is no room
+abbrev pub madeReply : Made → Reply
+madeReply (At c) = context (c .0)
+madeReply NoRoom = refused 6

@@ -1,0 +1,214 @@
+// One pass over a store's words that judges them and builds their index.
+use index::Lookup;
+use words::COMPACT_EMPTY_RETURN_STATE;
+ghost use mathlib.Core.Path.{_≡_};
+ghost use Prim.Native.Nat.{_+_, _<_, _≤_};
+ghost use lib.ListN.{length};
+ghost use Rattle.layout.specs.Layout.{first, kind, parent, second, state};
+ghost use Rattle.layout.specs.Listing.{Entries};
+ghost use Rattle.store.specs.Check.{Above, AllJudged, EntryAt, FoundNew, Fresh, Judged, Passed, RootJudged, Tells, Unused, Verdict};
+
+// What a record is: sound, with so many pool entries in use after it, or not sound.
+pub enum Checked {
+    Good(usize),
+    Bad,
+}
+
+// Is a pool entry the first of its list, which starts at `from`, or above the one before it?
+fn rises(store: &[u32], from: usize, place: usize) -> bool
+    requires { ⌜ (length (now store) ≡ 5634) × (place < 2048) ⌝ }
+    ensures { λ r. ⌜ Tells (Above (state (now (store .entry))) from place) r ⌝ }
+{
+    if place <= from {
+        return true;
+    }
+    index::pool_state(store, place - 1) < index::pool_state(store, place)
+}
+
+// Is a pool entry, in a list that starts at `from`, sound below a context?
+fn entry_sound(store: &[u32], from: usize, place: usize, context: usize) -> bool
+    requires { ⌜ (length (now store) ≡ 5634) × (place < 2048) ⌝ }
+    ensures { λ r. ⌜ Tells (EntryAt (state (now (store .entry))) (parent (now (store .entry))) from place context) r ⌝ }
+{
+    let parent = index::pool_parent(store, place);
+    if context <= parent as usize {
+        return false;
+    }
+    if !rises(store, from, place) {
+        return false;
+    }
+    if index::pool_state(store, place) == COMPACT_EMPTY_RETURN_STATE {
+        return parent == 0;
+    }
+    true
+}
+
+// Are n pool entries sound below a context?
+fn entries_sound(store: &[u32], from: usize, n: usize, context: usize) -> bool
+    requires { ⌜ (length (now store) ≡ 5634) × (from + n ≤ 2048) ⌝ }
+    ensures { λ r. ⌜ Tells (Entries (state (now (store .entry))) (parent (now (store .entry))) from n context) r ⌝ }
+{
+    let mut i = 0;
+    while i < n {
+        if !entry_sound(store, from, from + i, context) {
+            return false;
+        }
+        i += 1;
+    }
+    true
+}
+
+// Are the n entries on the stack those of no record so far? Then they are indexed as the next context.
+fn check_new(store: &[u32], scratch: &mut [u32], context: usize, n: usize) -> bool
+    requires { ⌜ Fresh (now store) (now scratch) context n ⌝ }
+    ensures { λ r. ⌜ FoundNew (now (store .entry)) (now (scratch .entry)) context n r (now (scratch .exit)) ⌝ }
+{
+    let hash = index::entries_hash(scratch, 0, n);
+    let found = index::find_interned(store, scratch, context, 0, n, hash);
+    let Lookup::At(_) = found else {
+        index::add_to_index(scratch, context, hash);
+        return true;
+    };
+    false
+}
+
+// Judges a record of kind 1.
+fn check_single(store: &[u32], scratch: &mut [u32], context: usize, pool: usize) -> Checked
+    requires { ⌜ Passed (now store) (now scratch) context pool × (context < 512) × (kind (now store) context ≡ 1) ⌝ }
+    ensures { λ r. ⌜ Judged (now (store .entry)) context r (now (scratch .exit)) ⌝ }
+{
+    let parent = index::first_of(store, context);
+    let state = index::second_of(store, context);
+    if context <= parent as usize {
+        return Checked::Bad;
+    }
+    if state == COMPACT_EMPTY_RETURN_STATE {
+        return Checked::Bad;
+    }
+    index::put_entry(scratch, 0, parent, state);
+    if check_new(store, scratch, context, 1) {
+        return Checked::Good(pool);
+    }
+    Checked::Bad
+}
+
+// Judges a record of kind 2, whose entries start where those before it end.
+fn check_array(store: &[u32], scratch: &mut [u32], context: usize, pool: usize) -> Checked
+    requires { ⌜ Passed (now store) (now scratch) context pool × (context < 512) × (kind (now store) context ≡ 2) ⌝ }
+    ensures { λ r. ⌜ Judged (now (store .entry)) context r (now (scratch .exit)) ⌝ }
+{
+    let from = index::first_of(store, context) as usize;
+    let n = index::second_of(store, context) as usize;
+    if from != pool {
+        return Checked::Bad;
+    }
+    if n < 2 {
+        return Checked::Bad;
+    }
+    if 2048 - pool < n {
+        return Checked::Bad;
+    }
+    if !entries_sound(store, from, n, context) {
+        return Checked::Bad;
+    }
+    index::load_entries(store, scratch, from, n, 0);
+    if check_new(store, scratch, context, n) {
+        return Checked::Good(pool + n);
+    }
+    Checked::Bad
+}
+
+// Judges a record that is not the first.
+fn check_record(store: &[u32], scratch: &mut [u32], context: usize, pool: usize) -> Checked
+    requires { ⌜ Passed (now store) (now scratch) context pool × (context < 512) ⌝ }
+    ensures { λ r. ⌜ Judged (now (store .entry)) context r (now (scratch .exit)) ⌝ }
+{
+    let kind = index::kind_of(store, context);
+    if kind == 1 {
+        return check_single(store, scratch, context, pool);
+    }
+    if kind == 2 {
+        return check_array(store, scratch, context, pool);
+    }
+    Checked::Bad
+}
+
+// Judges the records after the first.
+fn check_records(store: &[u32], scratch: &mut [u32], count: usize) -> Checked
+    requires { ⌜ Passed (now store) (now scratch) 1 0 × (1 ≤ count) × (count ≤ 512) ⌝ }
+    ensures { λ r. ⌜ AllJudged (now (store .entry)) count r (now (scratch .exit)) ⌝ }
+{
+    let mut pool = 0;
+    let mut context = 1;
+    while context < count {
+        let judged = check_record(store, scratch, context, pool);
+        let Checked::Good(next) = judged else {
+            return Checked::Bad;
+        };
+        pool = next;
+        context += 1;
+    }
+    Checked::Good(pool)
+}
+
+// Is record 0 the empty context? Then it is the first in the index.
+fn check_root(store: &[u32], scratch: &mut [u32]) -> bool
+    requires { ⌜ (length (now store) ≡ 5634) × (length (now scratch) ≡ 16384) ⌝ }
+    ensures { λ r. ⌜ RootJudged (now (store .entry)) r (now (scratch .exit)) ⌝ }
+{
+    if index::kind_of(store, 0) != 0 {
+        return false;
+    }
+    if index::first_of(store, 0) != 0 {
+        return false;
+    }
+    if index::second_of(store, 0) != 0 {
+        return false;
+    }
+    index::clear_heads(scratch);
+    index::add_to_index(scratch, 0, words::empty_hash());
+    true
+}
+
+// Are all words past the records and the pool entries in use 0?
+fn unused_zero(store: &[u32], count: usize, used: usize) -> bool
+    requires { ⌜ (length (now store) ≡ 5634) × (count ≤ 512) × (used ≤ 2048) ⌝ }
+    ensures { λ r. ⌜ Tells (Unused (now (store .entry)) count used) r ⌝ }
+{
+    if !words::all_zero(store, 2 + 3 * count, 1538) {
+        return false;
+    }
+    if !words::all_zero(store, 1538 + used, 3586) {
+        return false;
+    }
+    words::all_zero(store, 3586 + used, 5634)
+}
+
+// Is the store sound? Then its index stands in the scratch.
+pub fn check_store(store: &[u32], scratch: &mut [u32]) -> bool
+    requires { ⌜ (length (now store) ≡ 5634) × (length (now scratch) ≡ 16384) ⌝ }
+    ensures { λ r. ⌜ Verdict (now (store .entry)) r (now (scratch .exit)) ⌝ }
+{
+    let count = index::count_of(store) as usize;
+    let used = index::used_of(store) as usize;
+    if count < 1 {
+        return false;
+    }
+    if 512 < count {
+        return false;
+    }
+    if 2048 < used {
+        return false;
+    }
+    if !check_root(store, scratch) {
+        return false;
+    }
+    let checked = check_records(store, scratch, count);
+    let Checked::Good(pool) = checked else {
+        return false;
+    };
+    if pool != used {
+        return false;
+    }
+    unused_zero(store, count, used)
+}
