@@ -1,9 +1,10 @@
-//! Timing in rounds: the two sides take turns, and each side's best round counts.
+//! Timing in rounds: the sides take turns, and each side's best round counts.
 use std::time::Instant;
 
 const ROUNDS: usize = 25;
 
 /// Nanoseconds a call of the best round, of each side.
+#[cfg(has_archive)]
 pub struct Best {
     pub port: f64,
     pub rust: f64,
@@ -17,19 +18,30 @@ fn nanoseconds(calls: u32, call: &mut dyn FnMut()) -> f64 {
     began.elapsed().as_nanos() as f64 / f64::from(calls)
 }
 
-/// Runs both sides in turn, `calls` calls a round, after one round each that does not count.
-pub fn take_turns(calls: u32, port: &mut dyn FnMut(), rust: &mut dyn FnMut()) -> Best {
-    nanoseconds(calls, port);
-    nanoseconds(calls, rust);
-    let mut best = Best { port: f64::MAX, rust: f64::MAX };
+/// Runs all sides in turn, `calls` calls a round, after one round each that does not count; answers the
+/// nanoseconds a call of each side's best round.
+pub fn best_of<const SIDES: usize>(calls: u32, mut sides: [&mut dyn FnMut(); SIDES]) -> [f64; SIDES] {
+    let mut best = [f64::MAX; SIDES];
+    for side in &mut sides {
+        nanoseconds(calls, side);
+    }
     for _ in 0..ROUNDS {
-        best.port = best.port.min(nanoseconds(calls, port));
-        best.rust = best.rust.min(nanoseconds(calls, rust));
+        for (side, best) in sides.iter_mut().zip(&mut best) {
+            *best = best.min(nanoseconds(calls, side));
+        }
     }
     best
 }
 
+/// The port and its twin, in turn.
+#[cfg(has_archive)]
+pub fn take_turns(calls: u32, port: &mut dyn FnMut(), rust: &mut dyn FnMut()) -> Best {
+    let [port, rust] = best_of(calls, [port, rust]);
+    Best { port, rust }
+}
+
 /// One line: what was timed, both sides, and their ratio.
+#[cfg(has_archive)]
 pub fn report(what: &str, best: &Best) {
     println!(
         "{what}: port {:.1} ns, rust {:.1} ns, ratio {:.2}",

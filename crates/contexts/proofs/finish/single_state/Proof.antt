@@ -1,0 +1,23 @@
+-- Context 0 is `$` alone; a singleton has its own words.
+use mathlib.Core.Path.{sym, _∙_}
+use Rattle.contexts.specs.Rest.{headState}
+use Rattle.contexts.specs.Last.{plain-few, plain-zero, plain-one}
+use Rattle.contexts.proofs.finish.single_state.Statement.{statement}
+use Rattle.contexts.proofs.finish.single_state.Tie as tie
+
+kind-of-requires : tie.Need-kind-of-requires
+kind-of-requires c κs = (c .before .pre .sized, plain-few (c .before .args .store .now) (c .before .args .context) (c .before .pre))
+
+returns : tie.Need-returns
+unfolding headState
+returns c = rw (plain-zero (c .before .before .before .args .store .now) (c .before .before .before .args .context) (c .before .before .before .pre) (sym (c .before .kind-of .ensures) ∙ c .if1 .taken))
+
+second-of-requires : tie.Need-second-of-requires
+second-of-requires c κs = (c .before .before .before .pre .sized, plain-few (c .before .before .before .args .store .now) (c .before .before .before .args .context) (c .before .before .before .pre))
+
+returns-2 : tie.Need-returns-2
+unfolding headState
+returns-2 c = c .second-of .ensures ∙ rw (plain-one (c .before .before .before .before .args .store .now) (c .before .before .before .before .args .context) (c .before .before .before .before .pre) (λ e. c .before .if1 .left (c .before .before .kind-of .ensures ∙ e)))
+
+pub single-state-spec : {M : Type 1} → statement M
+single-state-spec = tie.close (tie.spec kind-of-requires returns second-of-requires returns-2)

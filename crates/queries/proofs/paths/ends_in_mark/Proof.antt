@@ -1,0 +1,52 @@
+-- By kind: an array's last entry, and else whether the record is that of context 0.
+use borrow.Author.Needs.{needs}
+use mathlib.Core.Path.{sym, _∙_}
+use Rattle.queries.specs.Known.{few, bounds-read, last-read, path-other}
+use native.Mathlib.Omega.{arith}
+use Rattle.queries.proofs.paths.ends_in_mark.Statement.{statement}
+use Rattle.queries.proofs.paths.ends_in_mark.Tie as tie
+
+kind-of-requires : tie.Need-kind-of-requires
+kind-of-requires c κs = (c .before .pre .sized, few (c .before .pre))
+
+first-of-requires : tie.Need-first-of-requires
+first-of-requires c κs = (c .before .before .before .pre .sized, few (c .before .before .before .pre))
+
+cast-from : tie.Need-cast-from
+cast-from c = search needs
+
+second-of-requires : tie.Need-second-of-requires
+second-of-requires c κs = (c .before .before .before .before .pre .sized, few (c .before .before .before .before .pre))
+
+cast-n : tie.Need-cast-n
+cast-n c = search needs
+
+add-pool-state : tie.Need-add-pool-state
+add-pool-state c = search needs
+
+sub-pool-state : tie.Need-sub-pool-state
+sub-pool-state c = omega (arith, bounds-read (c .before .before .before .before .before .pre) (sym (c .before .before .before .kind-of .ensures) ∙ c .before .before .if1 .taken) (c .before .first-of .result) (c .second-of .result) (c .before .first-of .ensures) (c .second-of .ensures))
+
+pool-state-requires : tie.Need-pool-state-requires
+pool-state-requires c κs = (c .before .before .before .before .before .pre .sized, omega (arith, bounds-read (c .before .before .before .before .before .pre) (sym (c .before .before .before .kind-of .ensures) ∙ c .before .before .if1 .taken) (c .before .first-of .result) (c .second-of .result) (c .before .first-of .ensures) (c .second-of .ensures)))
+
+returns : tie.Need-returns
+returns c = last-read (c .before .before .before .before .before .before .pre) (sym (c .before .before .before .before .kind-of .ensures) ∙ c .before .before .before .if1 .taken) (c .before .before .first-of .result) (c .before .second-of .result) (c .before .before .first-of .ensures) (c .before .second-of .ensures) (c .pool-state .result) (c .pool-state .ensures)
+
+returns-2 : tie.Need-returns-2
+returns-2 c = rw (c .before .kind-of .ensures) (sym (path-other (c .before .before .before .pre) (λ e. c .if1 .left (c .before .kind-of .ensures ∙ e))))
+
+pub ends-in-mark-spec : {M : Type 1} → statement M
+ends-in-mark-spec =
+    tie.close
+    (tie.spec
+    kind-of-requires
+    first-of-requires
+    cast-from
+    second-of-requires
+    cast-n
+    add-pool-state
+    sub-pool-state
+    pool-state-requires
+    returns
+    returns-2)

@@ -1,0 +1,37 @@
+-- What each case of an answer is, as a reply, and what a query leaves as a whole.
+use mathlib.Core.Bool.{true, false}
+use mathlib.Core.List.{List}
+use Prim.Native.Nat.{ℕ}
+use Rattle.words.specs.Refusals.{number}
+use Rattle.store.specs.Calls.{Reply, refused, context, count, state, holds, none, Left}
+use Rattle.queries.specs.declared.answers.Counted.{Counted}
+use Rattle.queries.specs.declared.answers.Counted.the-variants.{Count, Refused as notCounted}
+use Rattle.queries.specs.declared.answers.Answered.{Answered}
+use Rattle.queries.specs.declared.answers.Answered.the-variants.{Yes, No, Refused as notAnswered}
+use Rattle.queries.specs.declared.answers.StateFound.{StateFound}
+use Rattle.queries.specs.declared.answers.StateFound.the-variants.{State, Nothing as noState, Refused as notState}
+use Rattle.queries.specs.declared.answers.ParentFound.{ParentFound}
+use Rattle.queries.specs.declared.answers.ParentFound.the-variants.{Parent, Nothing as noParent, Refused as notParent}
+
+abbrev pub counted : Counted → Reply
+counted (Count n) = count n
+counted (notCounted f) = refused (number f)
+
+abbrev pub answered : Answered → Reply
+answered Yes = holds true
+answered No = holds false
+answered (notAnswered f) = refused (number f)
+
+abbrev pub stateFound : StateFound → Reply
+stateFound (State s) = state (s .0)
+stateFound noState = none
+stateFound (notState f) = refused (number f)
+
+abbrev pub parentFound : ParentFound → Reply
+parentFound (Parent p) = context (p .0)
+parentFound noParent = none
+parentFound (notParent f) = refused (number f)
+
+-- the reply, and every word of the store and of the scratch afterwards
+abbrev pub left : Reply → List ℕ → List ℕ → Left
+left r w z = record { reply = r; store = w; scratch = z }

@@ -1,0 +1,8 @@
+-- The entry queries. To believe: Queries, Answers.
+pub mod Queries
+pub mod Answers
+pub mod Sentences
+pub mod Listed
+pub mod Known
+pub mod Leaves
+pub mod Determined

@@ -1,0 +1,45 @@
+// Which contexts have the empty stack in their set.
+use crate::answers::Answered;
+use store::inner::admit::Admitted;
+use store::inner::admit::admit;
+use words::COMPACT_EMPTY_RETURN_STATE;
+use words::ContextId;
+ghost use mathlib.Core.Path.{_≡_};
+ghost use mathlib.Core.List.{[]};
+ghost use Rattle.stacks.specs.Forest.{mem};
+ghost use Rattle.arena.specs.Store.{tree};
+ghost use Rattle.layout.specs.Decode.{storeOf};
+ghost use Rattle.queries.specs.Answers.{answered, left};
+ghost use Rattle.queries.specs.Known.{Known};
+ghost use Rattle.queries.specs.Queries.{hasEmptyPathCall};
+
+// Is the last entry a `$`? States rise, so no other can be.
+fn ends_in_mark(store: &[u32], context: usize) -> bool
+    requires { ⌜ Known (now store) context ⌝ }
+    ensures { λ r. ⌜ r ≡ mem (tree (storeOf (now (store .entry))) context) [] ⌝ }
+{
+    let kind = index::kind_of(store, context);
+    if kind == 2 {
+        let from = index::first_of(store, context) as usize;
+        let n = index::second_of(store, context) as usize;
+        return index::pool_state(store, from + n - 1) == COMPACT_EMPTY_RETURN_STATE;
+    }
+    kind == 0
+}
+
+// Is the empty stack one of a context's?
+pub fn has_empty_path(store: &[u32], scratch: &mut [u32], context: ContextId) -> Answered
+    ensures { λ r. ⌜ left (answered r) (now (store .entry)) (now (scratch .exit))
+        ≡ hasEmptyPathCall (now (store .entry)) (now (scratch .entry)) (context .0) ⌝ }
+{
+    let admitted = admit(store, scratch, context);
+    if let Admitted::Refused(refusal) = admitted {
+        return Answered::Refused(refusal);
+    }
+    let found = ends_in_mark(store, context.0 as usize);
+    words::clear(scratch);
+    if found {
+        return Answered::Yes;
+    }
+    Answered::No
+}

@@ -1,0 +1,66 @@
+// The return state of a context's entry at an index.
+use crate::answers::StateFound;
+use store::inner::admit::Admitted;
+use store::inner::admit::admit;
+use words::CompactState;
+use words::ContextId;
+use words::EMPTY_RETURN_STATE;
+use words::ReturnState;
+ghost use mathlib.Core.Path.{_≡_};
+ghost use Rattle.arena.specs.Store.{nodeAt};
+ghost use Rattle.layout.specs.Layout.{kind};
+ghost use Rattle.layout.specs.Decode.{storeOf};
+ghost use Rattle.queries.specs.Answers.{left, stateFound};
+ghost use Rattle.queries.specs.Known.{Known};
+ghost use Rattle.queries.specs.Queries.{returnStateCall, stateAt};
+
+// Of an array: the entry's state, as the border shows it.
+fn array_state(store: &[u32], context: usize, index: u32) -> StateFound
+    requires { ⌜ Known (now store) context × (kind (now store) context ≡ 2) ⌝ }
+    ensures { λ r. ⌜ stateFound r ≡ stateAt (nodeAt (storeOf (now (store .entry))) context) index ⌝ }
+{
+    if index < index::second_of(store, context) {
+        let from = index::first_of(store, context) as usize;
+        let held = index::pool_state(store, from + index as usize);
+        return StateFound::State(words::expand(CompactState(held)));
+    }
+    StateFound::Nothing
+}
+
+// Of any record; that of context 0 has one entry, a `$`.
+fn state_at(store: &[u32], context: usize, index: u32) -> StateFound
+    requires { ⌜ Known (now store) context ⌝ }
+    ensures { λ r. ⌜ stateFound r ≡ stateAt (nodeAt (storeOf (now (store .entry))) context) index ⌝ }
+{
+    let kind = index::kind_of(store, context);
+    if kind == 2 {
+        return array_state(store, context, index);
+    }
+    if index != 0 {
+        return StateFound::Nothing;
+    }
+    if kind == 1 {
+        let held = index::second_of(store, context);
+        return StateFound::State(words::expand(CompactState(held)));
+    }
+    StateFound::State(ReturnState(EMPTY_RETURN_STATE))
+}
+
+// What is the state of a context's entry at an index?
+pub fn return_state(
+    store: &[u32],
+    scratch: &mut [u32],
+    context: ContextId,
+    index: u32,
+) -> StateFound
+    ensures { λ r. ⌜ left (stateFound r) (now (store .entry)) (now (scratch .exit))
+        ≡ returnStateCall (now (store .entry)) (now (scratch .entry)) (context .0) index ⌝ }
+{
+    let admitted = admit(store, scratch, context);
+    if let Admitted::Refused(refusal) = admitted {
+        return StateFound::Refused(refusal);
+    }
+    let found = state_at(store, context.0 as usize, index);
+    words::clear(scratch);
+    found
+}

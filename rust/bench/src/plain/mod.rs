@@ -1,0 +1,72 @@
+//! Plain Rust with the same duties over the same lent words: check and index in one pass, work, clear.
+
+mod check;
+mod index;
+#[cfg(test)]
+mod tests;
+
+use check::check;
+use index::{find, hash_of, singleton_hash};
+
+const MOST_CONTEXTS: usize = 512;
+const MOST_ENTRIES: usize = 2_048;
+const RECORDS: usize = 2;
+const PARENTS: usize = RECORDS + 3 * MOST_CONTEXTS;
+const STATES: usize = PARENTS + MOST_ENTRIES;
+
+type Store = [u32; STATES + MOST_ENTRIES];
+type Scratch = [u32; 16_384];
+
+/// Kinds of records but the first.
+const SINGLETON: u32 = 1;
+const ARRAY: u32 = 2;
+/// The empty mark as stored.
+const DOLLAR: u32 = u32::MAX;
+
+/// A singleton's number, or the number of a refusal.
+#[inline(never)]
+pub fn singleton(store: &mut [u32], scratch: &mut [u32], parent: u32, state: u64) -> Result<u32, u32> {
+    let Ok(store) = <&mut Store>::try_from(store) else {
+        return Err(2);
+    };
+    let Ok(scratch) = <&mut Scratch>::try_from(scratch) else {
+        return Err(2);
+    };
+    let answer = singleton_in(store, scratch, parent, state);
+    scratch.fill(0);
+    answer
+}
+
+fn singleton_in(store: &mut Store, scratch: &mut Scratch, parent: u32, state: u64) -> Result<u32, u32> {
+    if !check(store, scratch) {
+        return Err(1);
+    }
+    let count = store[0];
+    if parent >= count {
+        return Err(4);
+    }
+    if state == u64::MAX {
+        return Ok(0);
+    }
+    if state >= u64::from(DOLLAR) {
+        return Err(5);
+    }
+    let state = state as u32;
+    let hash = singleton_hash(hash_of(scratch, parent as usize), state);
+    if let Some(known) = find(scratch, hash, |other| record(store, other) == [SINGLETON, parent, state]) {
+        return Ok(known as u32);
+    }
+    if count as usize == MOST_CONTEXTS {
+        return Err(6);
+    }
+    let at = RECORDS + 3 * count as usize;
+    store[at..at + 3].copy_from_slice(&[SINGLETON, parent, state]);
+    store[0] = count + 1;
+    Ok(count)
+}
+
+/// Kind, a and b.
+fn record(store: &Store, context: usize) -> [u32; 3] {
+    let at = RECORDS + 3 * context;
+    [store[at], store[at + 1], store[at + 2]]
+}

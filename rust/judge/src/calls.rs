@@ -1,0 +1,191 @@
+//! Every call, and what it leaves for any words and arguments: the reply and each word afterwards.
+
+use crate::layout::{DOLLAR, EMPTY_MARK, SCRATCH_WORDS, STORE_WORDS, narrow, wide};
+use crate::store::Store;
+
+/// Refusals, by document 01's numbers.
+pub const UNSOUND_STORE: u32 = 1;
+pub const WRONG_LENGTH: u32 = 2;
+pub const UNKNOWN_CONTEXT: u32 = 4;
+pub const STATE_OUT_OF_RANGE: u32 = 5;
+pub const FULL_STORE: u32 = 6;
+
+#[derive(Clone, Copy, Debug, Eq, PartialEq)]
+pub enum Call {
+    /// Lent the store alone.
+    Fresh,
+    Singleton {
+        parent: u32,
+        state: u64,
+    },
+    Merge {
+        left: u32,
+        right: u32,
+        wildcard: bool,
+    },
+    Len {
+        context: u32,
+    },
+    IsEmpty {
+        context: u32,
+    },
+    HasEmptyPath {
+        context: u32,
+    },
+    ReturnState {
+        context: u32,
+        index: u32,
+    },
+    Parent {
+        context: u32,
+        index: u32,
+    },
+}
+
+#[derive(Clone, Copy, Debug, Eq, PartialEq)]
+pub enum Reply {
+    Refused(u32),
+    Done,
+    Context(u32),
+    Count(u32),
+    Truth(bool),
+    /// A return state or a parent; `None` where there is none.
+    Entry(Option<u64>),
+}
+
+/// All that a call leaves.
+#[derive(Clone, Debug, Eq, PartialEq)]
+pub struct Outcome {
+    pub reply: Reply,
+    pub store: Vec<u32>,
+    pub scratch: Vec<u32>,
+}
+
+/// A store's words as they are lent to a call, judged once.
+pub struct Lent {
+    words: Vec<u32>,
+    store: Option<Store>,
+}
+
+impl Lent {
+    pub fn new(words: Vec<u32>) -> Self {
+        let store = Store::decode(&words);
+        Lent { words, store }
+    }
+
+    pub fn words(&self) -> &[u32] {
+        &self.words
+    }
+
+    /// The store in the words, if they are sound.
+    pub fn store(&self) -> Option<&Store> {
+        self.store.as_ref()
+    }
+
+    /// What a call leaves, with this scratch lent beside the store.
+    pub fn outcome(&self, call: &Call, scratch: &[u32]) -> Outcome {
+        if *call == Call::Fresh {
+            return self.fresh(scratch);
+        }
+        if self.words.len() != STORE_WORDS || scratch.len() != SCRATCH_WORDS {
+            return self.unchanged(Reply::Refused(WRONG_LENGTH), scratch);
+        }
+        let cleared = vec![0; SCRATCH_WORDS];
+        let Some(store) = &self.store else {
+            return self.unchanged(Reply::Refused(UNSOUND_STORE), &cleared);
+        };
+        match answer(store, call) {
+            Ok(Answer::Read(reply)) => self.unchanged(reply, &cleared),
+            Ok(Answer::Made(reply, after)) => Outcome { reply, store: after.words(), scratch: cleared },
+            Err(refusal) => self.unchanged(Reply::Refused(refusal), &cleared),
+        }
+    }
+
+    fn fresh(&self, scratch: &[u32]) -> Outcome {
+        if self.words.len() != STORE_WORDS {
+            return self.unchanged(Reply::Refused(WRONG_LENGTH), scratch);
+        }
+        Outcome { reply: Reply::Done, store: Store::fresh().words(), scratch: scratch.to_vec() }
+    }
+
+    fn unchanged(&self, reply: Reply, scratch: &[u32]) -> Outcome {
+        Outcome { reply, store: self.words.clone(), scratch: scratch.to_vec() }
+    }
+}
+
+/// What a call on a sound store gives that is not refused.
+enum Answer {
+    /// The store stays.
+    Read(Reply),
+    Made(Reply, Store),
+}
+
+fn answer(store: &Store, call: &Call) -> Result<Answer, u32> {
+    match *call {
+        Call::Fresh => unreachable!("judged before the words are"),
+        Call::Singleton { parent, state } => singleton(store, parent, state),
+        Call::Merge { left, right, wildcard } => {
+            known(store, left)?;
+            known(store, right)?;
+            made(store, |grown| grown.merge(left, right, wildcard))
+        }
+        Call::Len { context } => {
+            known(store, context)?;
+            Ok(Answer::Read(Reply::Count(narrow(store.entries(context).len()))))
+        }
+        Call::IsEmpty { context } => {
+            known(store, context)?;
+            Ok(Answer::Read(Reply::Truth(context == 0)))
+        }
+        Call::HasEmptyPath { context } => {
+            known(store, context)?;
+            let holds = store.entries(context).iter().any(|entry| entry.state == DOLLAR);
+            Ok(Answer::Read(Reply::Truth(holds)))
+        }
+        Call::ReturnState { context, index } => {
+            known(store, context)?;
+            Ok(Answer::Read(Reply::Entry(return_state(store, context, index))))
+        }
+        Call::Parent { context, index } => {
+            known(store, context)?;
+            Ok(Answer::Read(Reply::Entry(parent(store, context, index))))
+        }
+    }
+}
+
+fn known(store: &Store, context: u32) -> Result<(), u32> {
+    if store.knows(context) { Ok(()) } else { Err(UNKNOWN_CONTEXT) }
+}
+
+fn singleton(store: &Store, parent: u32, state: u64) -> Result<Answer, u32> {
+    known(store, parent)?;
+    if state == EMPTY_MARK {
+        return Ok(Answer::Read(Reply::Context(0)));
+    }
+    if state >= u64::from(DOLLAR) {
+        return Err(STATE_OUT_OF_RANGE);
+    }
+    let state = u32::try_from(state).expect("below the stored empty mark");
+    made(store, |grown| grown.singleton(parent, state))
+}
+
+/// Runs a call in a copy that has no ceilings, and refuses it where that ends above one.
+fn made(store: &Store, call: impl FnOnce(&mut Store) -> u32) -> Result<Answer, u32> {
+    let mut grown = store.clone();
+    let number = grown.within_ceilings(call).ok_or(FULL_STORE)?;
+    Ok(Answer::Made(Reply::Context(number), grown))
+}
+
+/// "`return_state` of a `$`, context 0's at 0 included, is the empty mark."
+fn return_state(store: &Store, context: u32, index: u32) -> Option<u64> {
+    let entry = store.entries(context).get(wide(index))?;
+    Some(if entry.state == DOLLAR { EMPTY_MARK } else { u64::from(entry.state) })
+}
+
+/// "`parent` of context 0 is none at every index, yet the parent of an array's `$` is 0."
+fn parent(store: &Store, context: u32, index: u32) -> Option<u64> {
+    if context == 0 {
+        return None;
+    }
+    store.entries(context).get(wide(index)).map(|entry| u64::from(entry.parent))
+}

@@ -1,0 +1,91 @@
+//! The archive's doors. A slice is a pointer and a length.
+
+/// A refusal number, and the value where that is 0.
+#[derive(Clone, Copy, Debug, Eq, PartialEq)]
+#[repr(C)]
+pub struct Answer {
+    pub refusal: u32,
+    pub value: u32,
+}
+
+/// A refusal number; where that is 0, whether there is an entry, and its value.
+#[derive(Clone, Copy, Debug, Eq, PartialEq)]
+#[repr(C)]
+pub struct EntryAnswer {
+    pub refusal: u32,
+    pub found: u32,
+    pub value: u64,
+}
+
+/// A query on a context: the store is only read.
+pub type Query = unsafe extern "C" fn(*const u32, usize, *mut u32, usize, u32) -> Answer;
+
+/// A query on an entry of a context.
+pub type EntryQuery = unsafe extern "C" fn(*const u32, usize, *mut u32, usize, u32, u32) -> EntryAnswer;
+
+#[allow(unsafe_code)]
+unsafe extern "C" {
+    pub fn purse_fresh(store: *mut u32, store_len: usize) -> u32;
+
+    pub fn purse_singleton(
+        store: *mut u32,
+        store_len: usize,
+        scratch: *mut u32,
+        scratch_len: usize,
+        parent: u32,
+        state: u64,
+    ) -> Answer;
+
+    #[cfg(feature = "merge")]
+    pub fn purse_merge(
+        store: *mut u32,
+        store_len: usize,
+        scratch: *mut u32,
+        scratch_len: usize,
+        left: u32,
+        right: u32,
+        wildcard: bool,
+    ) -> Answer;
+
+    pub fn purse_len(
+        store: *const u32,
+        store_len: usize,
+        scratch: *mut u32,
+        scratch_len: usize,
+        context: u32,
+    ) -> Answer;
+
+    pub fn purse_is_empty(
+        store: *const u32,
+        store_len: usize,
+        scratch: *mut u32,
+        scratch_len: usize,
+        context: u32,
+    ) -> Answer;
+
+    pub fn purse_has_empty_path(
+        store: *const u32,
+        store_len: usize,
+        scratch: *mut u32,
+        scratch_len: usize,
+        context: u32,
+    ) -> Answer;
+
+    pub fn purse_return_state(
+        store: *const u32,
+        store_len: usize,
+        scratch: *mut u32,
+        scratch_len: usize,
+        context: u32,
+        index: u32,
+    ) -> EntryAnswer;
+
+    pub fn purse_parent(
+        store: *const u32,
+        store_len: usize,
+        scratch: *mut u32,
+        scratch_len: usize,
+        context: u32,
+        index: u32,
+    ) -> EntryAnswer;
+}

@@ -1,0 +1,61 @@
+//! Why a call was refused.
+
+use std::error::Error;
+use std::fmt;
+
+/// Document 01's refusals of calls on a store, in the order of checking.
+#[derive(Clone, Copy, Debug, Eq, Hash, PartialEq)]
+#[non_exhaustive]
+pub enum Refusal {
+    /// A lent slice has a wrong length.
+    WrongLength,
+    /// The store is not sound.
+    UnsoundStore,
+    /// A context number is not below the store's count.
+    UnknownContext,
+    /// A return state from 4294967295 to 18446744073709551614.
+    StateOutOfRange,
+    /// The call would end above 512 contexts or 2,048 pool entries.
+    FullStore,
+}
+
+impl Refusal {
+    /// The number in document 01's table.
+    pub const fn number(self) -> u32 {
+        match self {
+            Refusal::WrongLength => 2,
+            Refusal::UnsoundStore => 1,
+            Refusal::UnknownContext => 4,
+            Refusal::StateOutOfRange => 5,
+            Refusal::FullStore => 6,
+        }
+    }
+
+    /// The refusal that a door answers; `None` for 0, which is no refusal.
+    pub(crate) fn from_number(number: u32) -> Option<Self> {
+        match number {
+            0 => None,
+            1 => Some(Refusal::UnsoundStore),
+            2 => Some(Refusal::WrongLength),
+            4 => Some(Refusal::UnknownContext),
+            5 => Some(Refusal::StateOutOfRange),
+            6 => Some(Refusal::FullStore),
+            other => unreachable!("the library's contracts give no refusal {other} on a store"),
+        }
+    }
+}
+
+impl fmt::Display for Refusal {
+    fn fmt(&self, out: &mut fmt::Formatter<'_>) -> fmt::Result {
+        let why = match self {
+            Refusal::WrongLength => "a lent slice has a wrong length",
+            Refusal::UnsoundStore => "the store is not sound",
+            Refusal::UnknownContext => "a context number is not below the count",
+            Refusal::StateOutOfRange => "a return state is too large to be stored",
+            Refusal::FullStore => "the store has no room",
+        };
+        write!(out, "refusal {}: {why}", self.number())
+    }
+}
+
+impl Error for Refusal {}
