@@ -20,3 +20,4 @@ pub mod ArrayPair
 pub mod ArrayEntry
 pub mod EntryPair
 pub mod MergeCall
+pub mod Promises

@@ -1,0 +1,15 @@
+// The doors: each call as a C function over plain numbers and slices.
+mod answers;
+mod asking;
+mod making;
+
+pub use answers::Answer;
+pub use answers::EntryAnswer;
+pub use asking::purse_has_empty_path;
+pub use asking::purse_is_empty;
+pub use asking::purse_len;
+pub use asking::purse_parent;
+pub use asking::purse_return_state;
+pub use making::purse_fresh;
+pub use making::purse_merge;
+pub use making::purse_singleton;
