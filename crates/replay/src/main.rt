@@ -1,0 +1,44 @@
+// Runs each recorded script and holds what it gives against the Rust's recorded answer; prints how
+// many differ. data/HOW.txt says what is recorded and how it was made.
+mod sample;
+
+use libc::STDOUT_FILENO;
+use sample::Tally;
+use sample::compare;
+ghost use mathlib.Core.Path.{_≡_};
+ghost use lib.ListN.{length};
+
+// Room for a sample of at most a megabyte.
+fn room() -> [u8; 1048576]
+    ensures { λ r. ⌜ 1048576 ≡ length r ⌝ }
+{
+    [0; 1048576]
+}
+
+// Prints what a comparison found.
+fn report(tally: Tally) {
+    let Tally::Whole(scripts, differences) = tally else {
+        io::write_all(STDOUT_FILENO, b"sample.bin is cut short\n");
+        return;
+    };
+    io::print_decimal(STDOUT_FILENO, scripts);
+    io::write_all(STDOUT_FILENO, b" scripts, ");
+    io::print_decimal(STDOUT_FILENO, differences);
+    io::write_all(STDOUT_FILENO, b" differences\n");
+}
+
+fn main() {
+    let path = b"sample.bin";
+    let file = os::open_read(path);
+    if file < 0 {
+        os::fail(path);
+        return;
+    }
+    let mut sample = room();
+    let n = io::read_full(file, &mut sample);
+    libc::close(file);
+    let mut store = [0u32; 5634];
+    let mut scratch = [0u32; 16384];
+    let mut out = [0u8; 40000];
+    report(compare(&sample[..n], &mut store, &mut scratch, &mut out));
+}

@@ -1,0 +1,76 @@
+-- A digit alone, or the digits before the last one and then that one. The number falls.
+use borrow.Author.Needs.{needs}
+use native.Mathlib.Omega.{arith}
+use Rattle.script.specs.Decimal.Laws.{decimal-small, decimal-more, length-small, length-more}
+use Rattle.script.specs.Laid.Laws.{wrote-then, wrote-length}
+use Prim.Native.Nat.{ℕ, _<_}
+use borrow.Fn.Kinds.{In}
+use borrow.Fn.PlainCycle.{Measures, is, falls, and}
+use Rattle.script.proofs.digits.put_decimal.Reads as put-decimal
+use Rattle.script.proofs.digits.put_decimal.Kinds as put-decimal-kinds
+use Rattle.script.proofs.digits.+put_decimal.Lts-put_decimal as put-decimal-lts
+use Rattle.script.proofs.digits.put_byte.Reads as put-byte-reads
+use Rattle.script.proofs.digits.+put_decimal.{statement}
+use Rattle.script.proofs.digits.+put_decimal.Tie.{close}
+
+abbrev μ-put-decimal : Measures 1 put-decimal-kinds.ps ℕ
+μ-put-decimal κs a = a .1 .1 .0
+
+abbrev put-decimal-at : ℕ → In 1 put-decimal-kinds.ps
+put-decimal-at t =
+    and 1 put-decimal-kinds.ps (is 1 put-decimal-kinds.ps μ-put-decimal t) put-decimal.Pre
+
+abbrev put-decimal-below : ℕ → In 1 put-decimal-kinds.ps
+put-decimal-below t =
+    and 1 put-decimal-kinds.ps (falls 1 put-decimal-kinds.ps _<_ μ-put-decimal t) put-decimal.Pre
+
+-- what the callees of put-decimal ask and give, at the measure t
+abbrev put-decimal-claims : ℕ → put-decimal-lts.Claims
+put-decimal-claims t = (put-byte-reads.Asked, put-byte-reads.Learnt, put-decimal-below t, put-decimal.Post)
+
+put-decimal-cast-put-byte : (t : ℕ) → put-decimal-lts.Need-cast-put-byte (put-decimal-claims t) (put-decimal-at t) put-decimal.Post
+put-decimal-cast-put-byte t c = omega arith
+
+put-decimal-add-put-byte : (t : ℕ) → put-decimal-lts.Need-add-put-byte (put-decimal-claims t) (put-decimal-at t) put-decimal.Post
+put-decimal-add-put-byte t c = omega arith
+
+put-decimal-put-byte-requires : (t : ℕ) → put-decimal-lts.Need-put-byte-requires (put-decimal-claims t) (put-decimal-at t) put-decimal.Post
+put-decimal-put-byte-requires t c κs = omega (arith, length-small (c .before .before .before .args .n) (c .before .if1 .taken), c .before .before .before .pre .1)
+
+put-decimal-same-length : (t : ℕ) → put-decimal-lts.Need-same-length (put-decimal-claims t) (put-decimal-at t) put-decimal.Post
+put-decimal-same-length t c = search needs
+
+put-decimal-returns : (t : ℕ) → put-decimal-lts.Need-returns (put-decimal-claims t) (put-decimal-at t) put-decimal.Post
+put-decimal-returns t c = rw (decimal-small (c .before .before .before .before .before .before .args .n) (c .before .before .before .before .if1 .taken)) (c .before .before .put-byte .ensures)
+
+put-decimal-put-decimal-requires : (t : ℕ) → put-decimal-lts.Need-put-decimal-requires (put-decimal-claims t) (put-decimal-at t) put-decimal.Post
+put-decimal-put-decimal-requires t c κs = (omega (arith, c .before .before .before .pre .0), omega (arith, length-more (c .before .before .before .args .n) (c .before .if1 .left), c .before .before .before .pre .1))
+
+put-decimal-cast-put-byte-2 : (t : ℕ) → put-decimal-lts.Need-cast-put-byte-2 (put-decimal-claims t) (put-decimal-at t) put-decimal.Post
+put-decimal-cast-put-byte-2 t c = omega arith
+
+put-decimal-add-put-byte-2 : (t : ℕ) → put-decimal-lts.Need-add-put-byte-2 (put-decimal-claims t) (put-decimal-at t) put-decimal.Post
+put-decimal-add-put-byte-2 t c = omega arith
+
+put-decimal-put-byte-requires-2 : (t : ℕ) → put-decimal-lts.Need-put-byte-requires-2 (put-decimal-claims t) (put-decimal-at t) put-decimal.Post
+put-decimal-put-byte-requires-2 t c κs = omega (arith, c .before .before .before .put-decimal .ensures .after, wrote-length (c .before .before .before .put-decimal .ensures), length-more (c .before .before .before .before .before .before .before .args .n) (c .before .before .before .before .before .if1 .left), c .before .before .before .before .before .before .before .pre .1)
+
+put-decimal-same-length-2 : (t : ℕ) → put-decimal-lts.Need-same-length-2 (put-decimal-claims t) (put-decimal-at t) put-decimal.Post
+put-decimal-same-length-2 t c = search needs
+
+put-decimal-returns-2 : (t : ℕ) → put-decimal-lts.Need-returns-2 (put-decimal-claims t) (put-decimal-at t) put-decimal.Post
+put-decimal-returns-2 t c = rw (decimal-more (c .before .before .before .before .before .before .before .before .before .before .args .n) (c .before .before .before .before .before .before .before .before .if1 .left)) (wrote-then (c .before .before .before .before .before .before .put-decimal .ensures) (c .before .before .put-byte2 .ensures))
+
+pub +put-decimal-spec : {M : Type 1} → statement M
++put-decimal-spec = close μ-put-decimal λ t. put-decimal-lts.spec (put-decimal-claims t) (put-decimal-at t) put-decimal.Post
+    (put-decimal-cast-put-byte t)
+    (put-decimal-add-put-byte t)
+    (put-decimal-put-byte-requires t)
+    (put-decimal-same-length t)
+    (put-decimal-returns t)
+    (put-decimal-put-decimal-requires t)
+    (put-decimal-cast-put-byte-2 t)
+    (put-decimal-add-put-byte-2 t)
+    (put-decimal-put-byte-requires-2 t)
+    (put-decimal-same-length-2 t)
+    (put-decimal-returns-2 t)

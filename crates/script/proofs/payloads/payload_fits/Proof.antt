@@ -1,0 +1,22 @@
+-- The entry is a mark of no kind, the mark of any multiple of 4, or a length.
+use borrow.Author.Needs.{needs}
+use native.Mathlib.Omega.{arith}
+use mathlib.Core.Path.{_≡_, refl, sym, ap, _∙_}
+use Rattle.script.specs.Payloads.Laws.{kind-unknown, kind-variable, kind-fixed}
+use Rattle.script.proofs.payloads.payload_fits.Statement.{statement}
+use Rattle.script.proofs.payloads.payload_fits.Tie as tie
+
+entry-of-requires : tie.Need-entry-of-requires
+entry-of-requires c κs = search needs
+
+returns : tie.Need-returns
+returns c = sym (kind-unknown (c .before .before .args .length) (c .before .before .args .kind) (c .before .entry-of .result) (c .before .entry-of .ensures) (c .if1 .taken))
+
+returns-2 : tie.Need-returns-2
+returns-2 c = sym (kind-variable (c .before .before .before .args .length) (c .before .before .before .args .kind) (c .before .before .entry-of .result) (c .before .before .entry-of .ensures) (c .if2 .taken))
+
+returns-3 : tie.Need-returns-3
+returns-3 c = sym (kind-fixed (c .before .before .before .args .length) (c .before .before .before .args .kind) (c .before .before .entry-of .result) (c .before .before .entry-of .ensures) (c .before .if1 .left) (c .if2 .left))
+
+pub payload-fits-spec : {M : Type 1} → statement M
+payload-fits-spec = tie.close (tie.spec entry-of-requires returns returns-2 returns-3)

@@ -1,0 +1,49 @@
+-- By the kind.
+use borrow.Author.Needs.{needs}
+use native.Mathlib.Omega.{arith}
+use mathlib.Core.Path.{_≡_, refl, sym, ap, _∙_}
+use Rattle.script.specs.Format.{payloadAt}
+use Rattle.script.specs.Format.Laws.{payload-singleton, payload-show, payload-other}
+use Rattle.script.proofs.records.read_payload.Statement.{statement}
+use Rattle.script.proofs.records.read_payload.Tie as tie
+
+u32-at-requires : tie.Need-u32-at-requires
+u32-at-requires c κs = omega (arith, c .before .before .pre .singleton (c .if1 .taken))
+
+add-u64-at : tie.Need-add-u64-at
+add-u64-at c = omega (arith, c .before .before .before .pre .singleton (c .before .if1 .taken))
+
+u64-at-requires : tie.Need-u64-at-requires
+u64-at-requires c κs = omega (arith, c .before .before .before .pre .singleton (c .before .if1 .taken))
+
+returns : tie.Need-returns
+returns c = rw (c .before .before .if1 .taken, c .before .u32-at .ensures, c .u64-at .ensures) (sym (payload-singleton (c .before .before .before .before .args .bytes .now) (c .before .before .before .before .args .at) (c .before .before .before .before .args .next)))
+
+read-merge-requires : tie.Need-read-merge-requires
+read-merge-requires c κs = c .before .before .before .pre .merge (c .if2 .taken)
+
+returns-2 : tie.Need-returns-2
+returns-2 c = rw (c .before .if2 .taken) (c .read-merge .ensures)
+
+u32-at-requires-2 : tie.Need-u32-at-requires-2
+u32-at-requires-2 c κs = c .before .before .before .before .pre .show (c .if3 .taken)
+
+returns-3 : tie.Need-returns-3
+returns-3 c = rw (c .before .if3 .taken, c .u32-at2 .ensures) (sym (payload-show (c .before .before .before .before .before .args .bytes .now) (c .before .before .before .before .before .args .at) (c .before .before .before .before .before .args .next)))
+
+returns-4 : tie.Need-returns-4
+returns-4 c = sym (payload-other (c .before .before .before .before .args .bytes .now) (c .before .before .before .before .args .at) (c .before .before .before .before .args .next) (c .before .before .before .before .args .kind) (c .before .before .if1 .left) (c .before .if2 .left) (c .if3 .left))
+
+pub read-payload-spec : {M : Type 1} → statement M
+read-payload-spec =
+    tie.close
+    (tie.spec
+    u32-at-requires
+    add-u64-at
+    u64-at-requires
+    returns
+    read-merge-requires
+    returns-2
+    u32-at-requires-2
+    returns-3
+    returns-4)

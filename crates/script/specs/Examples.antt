@@ -1,0 +1,58 @@
+-- Document 01's example, as far as its kinds are served: the script's bytes, its records, and all that it prints, computed from the definitions.
+use mathlib.Core.Path.{_≡_, refl}
+use mathlib.Core.Bool.{false}
+use mathlib.Core.List.{List, [], _∷_}
+use Prim.Native.Nat.{ℕ}
+use Rattle.stacks.specs.Merge.{isMark, wild, mergeE, mergeT}
+use Rattle.arena.specs.Store.{dollar, push, same, find, tree, treeOf, nodeAt}
+use Rattle.arena.specs.Place.{listed, intern, placeE, place, mergeS}
+use Rattle.arena.specs.Kinds.{size, kindOf}
+use Rattle.arena.specs.Room.{pool, room}
+use Rattle.layout.specs.Layout.{blank, count, used, kind, first, second, parent, state}
+use Rattle.layout.specs.Listing.{listing}
+use Rattle.layout.specs.Decode.{nodeFrom, nodeIn, storeIn}
+use Rattle.layout.specs.Encode.{putPool, fill, putRecord, putCounts, putNode, written, wordsOf}
+use Rattle.encoding.specs.Decide.{sameWords, rises, hasEntry, isNowhere, soundStore, nodeBelow, storeBelow, fits, goodStore, sound}
+use Rattle.store.specs.Calls.{zeros, ifLengths, ifSound, ifKnown, grown}
+use Rattle.store.specs.Admit.{checked}
+use Rattle.contexts.specs.Calls.{ifState, placedSingle, singletonCall, mergeCall}
+use Rattle.script.specs.Bytes.{u16At, u32At, u64At}
+use Rattle.script.specs.Payloads.{payloads, payloadOf, accepts}
+use Rattle.script.specs.Format.{singleton, merge, show, found, ended, malformed, payloadAt, recordAt, readAt}
+use Rattle.script.specs.Decimal.{digits, decimal}
+use Rattle.script.specs.Lines.{contextLine, refusalLine, entriesBytes, entriesLine, endLine}
+use Rattle.script.specs.Steps.{lineOf, callOf, readingStep, stepOf, repliesFrom, scriptReplies}
+
+-- 0C000100 00000000 2A00000000000000 / 09000200 01000000 00000000 00 / 04000700 02000000
+unfoldable pub script : List ℕ
+script =
+    12 ∷ 0 ∷ 1 ∷ 0 ∷ 0 ∷ 0 ∷ 0 ∷ 0 ∷ 42 ∷ 0 ∷ 0 ∷ 0 ∷ 0 ∷ 0 ∷ 0 ∷ 0
+    ∷ 9 ∷ 0 ∷ 2 ∷ 0 ∷ 1 ∷ 0 ∷ 0 ∷ 0 ∷ 0 ∷ 0 ∷ 0 ∷ 0 ∷ 0
+    ∷ 4 ∷ 0 ∷ 7 ∷ 0 ∷ 2 ∷ 0 ∷ 0 ∷ 0 ∷ []
+
+-- its records, and the end
+pub records : (readAt script 0 ≡ found (singleton 0 42) 16) × (readAt script 16 ≡ found (merge 1 0 false) 29) × (readAt script 29 ≡ found (show 2) 37) × (readAt script 37 ≡ ended)
+unfolding script readAt recordAt payloadAt accepts payloadOf payloads u16At u32At u64At
+records = (refl, refl, refl, refl)
+
+-- a byte short; a kind that is not served yet (3); a length that is not the kind's; a mode of 2
+pub faults : (readAt (4 ∷ 0 ∷ 7 ∷ 0 ∷ 2 ∷ 0 ∷ 0 ∷ []) 0 ≡ malformed) × (readAt (1 ∷ 0 ∷ 3 ∷ 0 ∷ 0 ∷ []) 0 ≡ malformed)
+    × (readAt (3 ∷ 0 ∷ 7 ∷ 0 ∷ 2 ∷ 0 ∷ 0 ∷ []) 0 ≡ malformed) × (readAt (9 ∷ 0 ∷ 2 ∷ 0 ∷ 0 ∷ 0 ∷ 0 ∷ 0 ∷ 0 ∷ 0 ∷ 0 ∷ 0 ∷ 2 ∷ []) 0 ≡ malformed)
+unfolding readAt recordAt payloadAt accepts payloadOf payloads u16At u32At
+faults = (refl, refl, refl, refl)
+
+-- `C 2`, `E 2 42>0 $`, `R 9`
+pub lines : (contextLine 2 ≡ 67 ∷ 32 ∷ 50 ∷ 10 ∷ [])
+    × (entriesLine (push 42 0 dollar) ≡ 69 ∷ 32 ∷ 50 ∷ 32 ∷ 52 ∷ 50 ∷ 62 ∷ 48 ∷ 32 ∷ 36 ∷ 10 ∷ [])
+    × (refusalLine 9 ≡ 82 ∷ 32 ∷ 57 ∷ 10 ∷ [])
+unfolding contextLine entriesLine refusalLine entriesBytes size decimal digits
+lines = (refl, refl, refl)
+
+-- the whole output: `C 1`, `C 2`, `E 2 42>0 $`, `T 3 2`
+pub example : scriptReplies script ≡
+    67 ∷ 32 ∷ 49 ∷ 10
+    ∷ 67 ∷ 32 ∷ 50 ∷ 10
+    ∷ 69 ∷ 32 ∷ 50 ∷ 32 ∷ 52 ∷ 50 ∷ 62 ∷ 48 ∷ 32 ∷ 36 ∷ 10
+    ∷ 84 ∷ 32 ∷ 51 ∷ 32 ∷ 50 ∷ 10 ∷ []
+unfolding script isMark wild mergeE mergeT same find tree treeOf nodeAt listed intern placeE place mergeS size kindOf pool room blank count used kind first second parent state listing nodeFrom nodeIn storeIn putPool fill putRecord putCounts putNode written wordsOf sameWords rises hasEntry isNowhere soundStore nodeBelow storeBelow fits goodStore sound zeros ifLengths ifSound ifKnown grown checked ifState placedSingle singletonCall mergeCall u16At u32At u64At payloads payloadOf accepts payloadAt recordAt readAt digits decimal contextLine refusalLine entriesBytes entriesLine endLine lineOf callOf readingStep stepOf repliesFrom scriptReplies
+example = refl

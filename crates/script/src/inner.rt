@@ -1,0 +1,2 @@
+// What crates above need beside the public face: no part of it.
+pub mod bytes;

@@ -1,0 +1,78 @@
+// A recorded answer held against what a script gives.
+use crate::lines::lay_end;
+use crate::run::Ran;
+use crate::run::run_step;
+ghost use mathlib.Core.Path.{_≡_};
+ghost use mathlib.Core.List.{_++_};
+ghost use Prim.Native.Nat.{_≤_};
+ghost use lib.ListN.{drop, length, take};
+ghost use Rattle.store.specs.Check.{Tells};
+ghost use Rattle.script.specs.Lines.{endLine};
+ghost use Rattle.script.specs.Steps.{scriptReplies};
+
+// Do the next bytes of the answer, from place `at` on, agree with the first `wrote` of `out`?
+fn agrees(out: &[u8], wrote: usize, answer: &[u8], at: usize) -> bool
+    requires { ⌜ (wrote ≤ length (now out)) × (at ≤ length (now answer)) ⌝ }
+    ensures { λ r. ⌜ Tells (take wrote (drop at (now (answer .entry))) ≡ take wrote (now (out .entry))) r ⌝ }
+{
+    if answer.len() - at < wrote {
+        return false;
+    }
+    let mut i = 0;
+    while i < wrote {
+        if answer[at + i] != out[i] {
+            return false;
+        }
+        i += 1;
+    }
+    true
+}
+
+// Is the end line all that is left of the answer from place `at` on?
+fn agrees_last(store: &[u32], out: &mut [u8; 40000], answer: &[u8], at: usize) -> bool
+    requires { ⌜ at ≤ length (now answer) ⌝ }
+    ensures { λ r. ⌜ Tells (now (answer .entry) ≡ take at (now (answer .entry)) ++ endLine (now (store .entry))) r ⌝ }
+{
+    let wrote = lay_end(out, store);
+    if !agrees(out, wrote, answer, at) {
+        return false;
+    }
+    if wrote == answer.len() - at {
+        return true;
+    }
+    false
+}
+
+// Does a script give exactly this answer, over a fresh store?
+pub fn replays(
+    script: &[u8],
+    answer: &[u8],
+    store: &mut [u32; 5634],
+    scratch: &mut [u32; 16384],
+    out: &mut [u8; 40000],
+) -> bool
+    ensures { λ r. ⌜ Tells (now (answer .entry) ≡ scriptReplies (now (script .entry))) r ⌝ }
+{
+    store::fresh(store);
+    words::clear(scratch);
+    let mut at = 0;
+    let mut told = 0;
+    loop {
+        let ran = run_step(script, at, store, scratch, out);
+        match ran {
+            Ran::Next(wrote, next) => {
+                if !agrees(out, wrote, answer, told) {
+                    return false;
+                }
+                told += wrote;
+                at = next;
+            }
+            Ran::Over(wrote) => {
+                if !agrees(out, wrote, answer, told) {
+                    return false;
+                }
+                return agrees_last(store, out, answer, told + wrote);
+            }
+        }
+    }
+}
