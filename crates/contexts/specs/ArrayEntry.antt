@@ -23,62 +23,62 @@ use Rattle.contexts.specs.Now.{known-now, plain-now, array-long, array-e
 use Rattle.contexts.specs.Inner.{Go, go-start, is-left, is-right, outcome, inner, falls}
 use Rattle.contexts.specs.declared.intern.Made.{Made}
 
-module _ (m : Bool) (w₀ z₀ : List ℕ) (a b top : ℕ) (v₀ : Mergeable m w₀ z₀ a b top) (d : Apart m a b) (ka : kind w₀ a ≡ 2) (kb : NoArray w₀ b) where
+module _ {m : Bool} {w₀ z₀ : List ℕ} {a b top : ℕ} (v₀ : Mergeable m w₀ z₀ a b top) (d : Apart m a b) (ka : kind w₀ a ≡ 2) (kb : NoArray w₀ b) where
   pub array-size-two : 2 ≤ size (nodeAt (storeOf w₀) a)
-  array-size-two = array-long w₀ z₀ (v₀ .live) a (v₀ .left) ka
+  array-size-two = array-long (v₀ .live) a (v₀ .left) ka
 
   pub entry-plain : Plain w₀ b
-  entry-plain = plain-now w₀ z₀ (v₀ .live) b (v₀ .right) kb
+  entry-plain = plain-now (v₀ .live) b (v₀ .right) kb
 
   pub entry-size : size (nodeAt (storeOf w₀) b) ≡ 1
   entry-size = plain-size w₀ b entry-plain
 
   pub entry-fits : top + size (nodeAt (storeOf w₀) a) + size (nodeAt (storeOf w₀) b) ≤ 4200
-  entry-fits = omega (arith, v₀ .room, array-ends w₀ z₀ (v₀ .live) a (v₀ .left) ka, entry-size)
+  entry-fits = omega (arith, v₀ .room, array-ends (v₀ .live) a (v₀ .left) ka, entry-size)
 
   abbrev pub Mixed : List ℕ → List ℕ → ℕ → ℕ → ℕ → Type 0
-  Mixed w z i j n = Go m w₀ z₀ a b top v₀ d entry-fits w z i j n
+  Mixed w z i j n = Go v₀ d entry-fits w z i j n
 
   pub mixed-start : Mixed w₀ z₀ 0 0 0
-  mixed-start = go-start m w₀ z₀ a b top v₀ d entry-fits
+  mixed-start = go-start v₀ d entry-fits
 
   a-positive : 0 < a
-  a-positive = array-positive w₀ z₀ (v₀ .live) a (v₀ .left) ka
+  a-positive = array-positive (v₀ .live) a (v₀ .left) ka
 
   -- the one entry, from place 0 on
   pub entry-rest : rest (nodeAt (storeOf w₀) b) 0 ≡ nodeAt (storeOf w₀) b
   unfolding rest
   entry-rest = refl
 
-  module _ (w z : List ℕ) (i j n : ℕ) (g : Mixed w z i j n) where
+  module _ {w z : List ℕ} {i j n : ℕ} (g : Mixed w z i j n) where
     pub array-known : a < length (storeOf w)
-    array-known = later-known w₀ z₀ (v₀ .live) a (v₀ .left) w z (g .live) (g .grew)
+    array-known = later-known (v₀ .live) a (v₀ .left) (g .live) (g .grew)
 
     -- the entry is taken: the rest of the array follows
     pub mixed-rest : i ≤ size (nodeAt (storeOf w₀) a) → 1 ≤ j → j ≤ 1 → Finishing w z a i top n
     mixed-rest hi hj lj =
-        let e : second w a ≡ size (nodeAt (storeOf w₀) a) = later-size w₀ z₀ (v₀ .live) a (v₀ .left) w z (g .live) (g .grew) array-size-two in
+        let e : second w a ≡ size (nodeAt (storeOf w₀) a) = later-size (v₀ .live) a (v₀ .left) (g .live) (g .grew) array-size-two in
         record {
           live = g .live;
-          known = known-now w z (g .live) a array-known;
-          array = later-array w₀ z₀ (v₀ .live) a (v₀ .left) w z (g .live) (g .grew) array-size-two;
+          known = known-now (g .live) a array-known;
+          array = later-array (v₀ .live) a (v₀ .left) (g .live) (g .grew) array-size-two;
           within = omega arith;
           entries = g .entries;
-          under = λ l. rw (later-node w₀ z₀ (v₀ .live) a (v₀ .left) w z (g .live) (g .grew)) (g .underLeft (omega arith));
+          under = λ l. rw (later-node (v₀ .live) a (v₀ .left) (g .live) (g .grew)) (g .underLeft (omega arith));
           room = omega (arith, entry-fits, entry-size, g .few);
         }
 
     pub mixed-rest-outcome : 1 ≤ j → (r : Made) (w′ u : List ℕ) → Extends w z top (whole w z a i top n) r w′ u → Outcome m w₀ z₀ top (mergeS m (storeOf w₀) a b) r w′ u
     mixed-rest-outcome h r w′ u x =
-        outcome m w₀ z₀ a b top v₀ d entry-fits w z i j n g (onto (stackState z) (stackParent z) top n (rest (nodeAt (storeOf w) a) i))
-        (rw (later-node w₀ z₀ (v₀ .live) a (v₀ .left) w z (g .live) (g .grew)) (is-left m w₀ z₀ a b top v₀ d entry-fits w z i j n g (omega (arith, entry-size)))) r w′ u x
+        outcome v₀ d entry-fits g (onto (stackState z) (stackParent z) top n (rest (nodeAt (storeOf w) a) i))
+        (rw (later-node (v₀ .live) a (v₀ .left) (g .live) (g .grew)) (is-left v₀ d entry-fits g (omega (arith, entry-size)))) r w′ u x
 
-  module _ (w z : List ℕ) (i n : ℕ) (g : Mixed w z i 0 n) where
+  module _ {w z : List ℕ} {i n : ℕ} (g : Mixed w z i 0 n) where
     entry-node : nodeAt (storeOf w) b ≡ rest (nodeAt (storeOf w₀) b) 0
-    entry-node = later-node w₀ z₀ (v₀ .live) b (v₀ .right) w z (g .live) (g .grew) ∙ sym entry-rest
+    entry-node = later-node (v₀ .live) b (v₀ .right) (g .live) (g .grew) ∙ sym entry-rest
 
     pub entry-now : Plain w b
-    entry-now = later-plain w₀ z₀ (v₀ .live) b (v₀ .right) w z (g .live) (g .grew) entry-size
+    entry-now = later-plain (v₀ .live) b (v₀ .right) (g .live) (g .grew) entry-size
 
     -- the array is at its end: the entry follows
     pub mixed-last : i ≤ size (nodeAt (storeOf w₀) a) → Lasting w z b top n
@@ -92,17 +92,17 @@ module _ (m : Bool) (w₀ z₀ : List ℕ) (a b top : ℕ) (v₀ : Mergeable m w
 
     pub mixed-last-outcome : size (nodeAt (storeOf w₀) a) ≤ i → (r : Made) (w′ u : List ℕ) → Extends w z top (withLast w z b top n) r w′ u → Outcome m w₀ z₀ top (mergeS m (storeOf w₀) a b) r w′ u
     mixed-last-outcome h r w′ u x =
-        outcome m w₀ z₀ a b top v₀ d entry-fits w z i 0 n g (onto (stackState z) (stackParent z) top n (nodeAt (storeOf w) b))
-        (rw entry-node (is-right m w₀ z₀ a b top v₀ d entry-fits w z i 0 n g h)) r w′ u x
+        outcome v₀ d entry-fits g (onto (stackState z) (stackParent z) top n (nodeAt (storeOf w) b))
+        (rw entry-node (is-right v₀ d entry-fits g h)) r w′ u x
 
   pub mixed-falls : (i j : ℕ) → headParent (rest (nodeAt (storeOf w₀) a) i) + headParent (rest (nodeAt (storeOf w₀) b) j) < a + b
-  mixed-falls = falls m w₀ z₀ a b top v₀ d entry-fits
+  mixed-falls = falls v₀ d entry-fits
 
-  pub mixed-inner : (w z : List ℕ) (i j n : ℕ) (g : Mixed w z i j n) → i < size (nodeAt (storeOf w₀) a) → j < size (nodeAt (storeOf w₀) b)
+  pub mixed-inner : {w z : List ℕ} {i j n : ℕ} (g : Mixed w z i j n) → i < size (nodeAt (storeOf w₀) a) → j < size (nodeAt (storeOf w₀) b)
       → Mergeable m w z (headParent (rest (nodeAt (storeOf w₀) a) i)) (headParent (rest (nodeAt (storeOf w₀) b) j)) (top + n)
-  mixed-inner w z i j n g hi hj =
-      let lb = ends-le (storeOf w₀) b _ (v₀ .right) (head-le w₀ z₀ (v₀ .live) b (v₀ .right) j) in
-      inner m w₀ z₀ a b top v₀ d entry-fits w z i j n g hi hj (omega (arith, v₀ .room, entry-size, g .few, ends-mixed i, lb))
+  mixed-inner {w} {z} {i} {j} {n} g hi hj =
+      let lb = ends-le (storeOf w₀) b _ (v₀ .right) (head-le (v₀ .live) b (v₀ .right) j) in
+      inner v₀ d entry-fits g hi hj (omega (arith, v₀ .room, entry-size, g .few, ends-mixed i, lb))
     where
       ends-mixed : (i : ℕ) → ends (storeOf w₀) (headParent (rest (nodeAt (storeOf w₀) a) i)) + size (nodeAt (storeOf w₀) a) ≤ ends (storeOf w₀) a
-      ends-mixed i = rw (← many-room (nodeAt (storeOf w₀) a) array-size-two) (ends-inner (storeOf w₀) a _ (v₀ .left) (head-before w₀ z₀ (v₀ .live) a (v₀ .left) a-positive i))
+      ends-mixed i = rw (← many-room (nodeAt (storeOf w₀) a) array-size-two) (ends-inner (storeOf w₀) a _ (v₀ .left) (head-before (v₀ .live) a (v₀ .left) a-positive i))

@@ -38,7 +38,7 @@ merged-same m w z top x c v k e = record {
 
 -- ---- merge
 
-module _ (m : Bool) (w z : List ℕ) (a b top : ℕ) (v : Mergeable m w z a b top) where
+module _ {m : Bool} {w z : List ℕ} {a b top : ℕ} (v : Mergeable m w z a b top) where
   sound : Sound (storeOf w)
   sound = v .live .good .sound
 
@@ -61,7 +61,7 @@ module _ (m : Bool) (w z : List ℕ) (a b top : ℕ) (v : Mergeable m w z a b to
   are-apart n s = record { differ = n; unswallowed = s }
 
   -- what was merged is kept in the cache
-  module _ (c : ℕ) (w₁ z₁ : List ℕ) (g : Merged m z top (mergeS m (storeOf w) a b) c w₁ z₁) where
+  module _ {c : ℕ} {w₁ z₁ : List ℕ} (g : Merged m z top (mergeS m (storeOf w) a b) c w₁ z₁) where
     pub merged-few : c < 512
     merged-few =
         let k : c < length (storeOf w₁) = rw (g .number, g .store) (merge-holds m (storeOf w) sound a b (v .left) (v .right) .known) in
@@ -84,25 +84,25 @@ module _ (m : Bool) (w z : List ℕ) (a b top : ℕ) (v : Mergeable m w z a b to
 
 -- ---- sides exchanged
 
-pub swapped : (m : Bool) (w z : List ℕ) (a b top : ℕ) → Mergeable m w z a b top → Mergeable m w z b a top
-swapped m w z a b top v = record { live = v .live; cache = v .cache; left = v .right; right = v .left; room = omega (arith, v .room) }
+pub swapped : {m : Bool} {w z : List ℕ} {a b top : ℕ} → Mergeable m w z a b top → Mergeable m w z b a top
+swapped v = record { live = v .live; cache = v .cache; left = v .right; right = v .left; room = omega (arith, v .room) }
 
-pub apart-swapped : (m : Bool) (a b : ℕ) → Apart m a b → Apart m b a
-apart-swapped m a b d = record { differ = λ e. d .differ (sym e); unswallowed = λ e. let q = d .unswallowed e in (q .1, q .0) }
+pub apart-swapped : {m : Bool} {a b : ℕ} → Apart m a b → Apart m b a
+apart-swapped d = record { differ = λ e. d .differ (sym e); unswallowed = λ e. let q = d .unswallowed e in (q .1, q .0) }
 
-pub outcome-swapped : (m : Bool) (w z : List ℕ) (a b top : ℕ) (r : Made) (w′ u : List ℕ) → Mergeable m w z a b top
+pub outcome-swapped : {m : Bool} {w z : List ℕ} {a b top : ℕ} (r : Made) (w′ u : List ℕ) → Mergeable m w z a b top
     → Outcome m w z top (mergeS m (storeOf w) b a) r w′ u → Outcome m w z top (mergeS m (storeOf w) a b) r w′ u
-outcome-swapped m w z a b top r w′ u v o = rw (merge-sides m (storeOf w) (v .live .good .sound) a b (v .left) (v .right)) o
+outcome-swapped {m} {w} {z} {a} {b} {top} r w′ u v o = rw (merge-sides m (storeOf w) (v .live .good .sound) a b (v .left) (v .right)) o
 
 -- ---- the entries of both sides
 
-pub sorted-of : (w z : List ℕ) → Live w z → (c : ℕ) → c < length (storeOf w) → Sorted (storeOf w) (nodeAt (storeOf w) c)
-sorted-of w z v c h = record { rise = node-rise (storeOf w) (v .good .sound) c h; below = node-below stop (storeOf w) (v .good .below) c h }
+pub sorted-of : {w z : List ℕ} → Live w z → (c : ℕ) → c < length (storeOf w) → Sorted (storeOf w) (nodeAt (storeOf w) c)
+sorted-of {w} {z} v c h = record { rise = node-rise (storeOf w) (v .good .sound) c h; below = node-below stop (storeOf w) (v .good .below) c h }
 
 -- the merge is that of the entries, interned
-pub by-entries : (m : Bool) (w z : List ℕ) (a b top : ℕ) → Mergeable m w z a b top → Apart m a b → (n : Node) (u : Store)
+pub by-entries : {m : Bool} {w z : List ℕ} {a b top : ℕ} → Mergeable m w z a b top → Apart m a b → (n : Node) (u : Store)
     → mergeN m (storeOf w) (nodeAt (storeOf w) a) (nodeAt (storeOf w) b) ≡ (n, u) → mergeS m (storeOf w) a b ≡ intern u n
-by-entries m w z a b top v d n u e =
+by-entries {m} {w} {z} {a} {b} {top} v d n u e =
     merge-nodes m (storeOf w) (v .live .good .sound) a b (v .left) (v .right) (d .unswallowed) ∙ ap (λ (y : Node × Store). intern (y .1) (y .0)) e
 
 -- ---- from what interning leaves to what the merge leaves

@@ -50,18 +50,18 @@ Extends w z top x NoRoom v u = (Fits (x .1) → ⊥) × (v ≡ w) × (length u �
 
 -- ---- an array's entries
 
-module _ (w z : List ℕ) (v : Live w z) (c : ℕ) (h : c < count w) (k : kind w c ≡ 2) where
+module _ {w z : List ℕ} (v : Live w z) (c : ℕ) (h : c < count w) (k : kind w c ≡ 2) where
   pub array-node : nodeAt (storeOf w) c ≡ listing (state w) (parent w) (first w c) (second w c)
   array-node = store-node w (count w) c h ∙ node-many w c k
 
   pub array-listed : Entries (state w) (parent w) (first w c) (second w c) c
-  array-listed = array-entries w (live-sound w z v) c h k
+  array-listed = array-entries w (live-sound v) c h k
 
   pub array-size : size (nodeAt (storeOf w) c) ≡ second w c
   array-size = rw array-node (listing-size (state w) (parent w) (first w c) (second w c) c array-listed)
 
   pub array-within : first w c + second w c ≤ 2048
-  array-within = omega (arith, array-fits w (live-sound w z v) c h k, live-sound w z v .counted .2)
+  array-within = omega (arith, array-fits w (live-sound v) c h k, live-sound v .counted .2)
 
   -- entry i
   pub array-entry : (i : ℕ) → i < second w c
@@ -73,13 +73,13 @@ module _ (w z : List ℕ) (v : Live w z) (c : ℕ) (h : c < count w) (k : kind w
 module _ (w z : List ℕ) (c i top n : ℕ) (v : Finishing w z c i top n) (f k : ℕ) (ef : f ≡ first w c + i) (ek : k ≡ second w c - i) (y : List ℕ) (d : Loaded w z f k (top + n) y) where
   rest-is : rest (nodeAt (storeOf w) c) i ≡ listing (state w) (parent w) f k
   rest-is =
-      rw (array-node w z (v .live) c (v .known) (v .array), ef, ek)
-      (rest-listing (state w) (parent w) c (first w c) (second w c) i (array-listed w z (v .live) c (v .known) (v .array)) (v .within))
+      rw (array-node (v .live) c (v .known) (v .array), ef, ek)
+      (rest-listing (state w) (parent w) c (first w c) (second w c) i (array-listed (v .live) c (v .known) (v .array)) (v .within))
 
   rest-entries : Entries (state w) (parent w) f k (length (storeOf w))
   rest-entries =
-      let e = entries-from (state w) (parent w) (first w c) (second w c) c i (array-listed w z (v .live) c (v .known) (v .array)) (v .within) in
-      rw (ef, ek) (Rattle.layout.specs.Listing.entries-le (state w) (parent w) _ _ c (length (storeOf w)) (omega (arith, v .known, live-count w z (v .live))) e)
+      let e = entries-from (state w) (parent w) (first w c) (second w c) c i (array-listed (v .live) c (v .known) (v .array)) (v .within) in
+      rw (ef, ek) (Rattle.layout.specs.Listing.entries-le (state w) (parent w) _ _ c (length (storeOf w)) (omega (arith, v .known, live-count (v .live))) e)
 
   same : SameStack z y (top + n)
   same e a b = d .below e b
@@ -96,7 +96,7 @@ module _ (w z : List ℕ) (c i top n : ℕ) (v : Finishing w z c i top n) (f k :
       let z0 : top + n + 0 ≡ top + n = omega arith in
       let f0 : f + 0 ≡ first w c + i = omega arith in
       let first-loaded : stackState y (top + n) ≡ state w (first w c + i) = ap (stackState y) (sym z0) ∙ d .states 0 h ∙ ap (state w) f0 in
-      let head : headState (rest (nodeAt (storeOf w) c) i) ≡ state w (first w c + i) = array-entry w z (v .live) c (v .known) (v .array) i (omega arith) .0 in
+      let head : headState (rest (nodeAt (storeOf w) c) i) ≡ state w (first w c + i) = array-entry (v .live) c (v .known) (v .array) i (omega arith) .0 in
       rw (same-state z y (top + n) same j (omega arith), first-loaded) (rw head at (v .under (omega arith) j a (omega arith)))
 
   pub finish-entries : Entries (stackState y) (stackParent y) top (n + k) (length (storeOf w))
@@ -140,8 +140,8 @@ interns-extends w z top n NoRoom w′ u l g = (g .0, g .1, ap length (g .2) ∙ 
 -- ---- lengths are kept
 
 pub extends-store : (w z : List ℕ) (top : ℕ) (x : ℕ × Store) (r : Made) (w′ u : List ℕ) → Live w z → Extends w z top x r w′ u → length w′ ≡ 5634
-extends-store w z top x (At d) w′ u v g = live-length w′ u (g .live)
-extends-store w z top x NoRoom w′ u v g = ap length (g .1) ∙ live-length w z v
+extends-store w z top x (At d) w′ u v g = live-length (g .live)
+extends-store w z top x NoRoom w′ u v g = ap length (g .1) ∙ live-length v
 
 pub extends-scratch : (w z : List ℕ) (top : ℕ) (x : ℕ × Store) (r : Made) (w′ u : List ℕ) → Extends w z top x r w′ u → length u ≡ scratchWords
 extends-scratch w z top x (At d) w′ u g = g .live .index .sized

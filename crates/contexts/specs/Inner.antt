@@ -25,26 +25,26 @@ use Rattle.contexts.specs.Cycle.{sorted-of, by-entries, extended, stuck-
 use Rattle.contexts.specs.Now.{head-before, head-le}
 use Rattle.contexts.specs.declared.intern.Made.{Made}
 
-module _ (m : Bool) (w₀ z₀ : List ℕ) (a b top : ℕ) (v₀ : Mergeable m w₀ z₀ a b top) (d : Apart m a b) (room : top + size (nodeAt (storeOf w₀) a) + size (nodeAt (storeOf w₀) b) ≤ 4200) where
+module _ {m : Bool} {w₀ z₀ : List ℕ} {a b top : ℕ} (v₀ : Mergeable m w₀ z₀ a b top) (d : Apart m a b) (room : top + size (nodeAt (storeOf w₀) a) + size (nodeAt (storeOf w₀) b) ≤ 4200) where
   abbrev pub Go : List ℕ → List ℕ → ℕ → ℕ → ℕ → Type 0
   Go w z i j n = Merging m (storeOf w₀) (nodeAt (storeOf w₀) a) (nodeAt (storeOf w₀) b) top z₀ w z i j n
 
   sa : Sorted (storeOf w₀) (nodeAt (storeOf w₀) a)
-  sa = sorted-of w₀ z₀ (v₀ .live) a (v₀ .left)
+  sa = sorted-of (v₀ .live) a (v₀ .left)
 
   sb : Sorted (storeOf w₀) (nodeAt (storeOf w₀) b)
-  sb = sorted-of w₀ z₀ (v₀ .live) b (v₀ .right)
+  sb = sorted-of (v₀ .live) b (v₀ .right)
 
   pub go-start : Go w₀ z₀ 0 0 0
   go-start = merging-start m w₀ z₀ (nodeAt (storeOf w₀) a) (nodeAt (storeOf w₀) b) top (v₀ .live) (v₀ .cache)
 
-  module _ (w z : List ℕ) (i j n : ℕ) (g : Go w z i j n) where
+  module _ {w z : List ℕ} {i j n : ℕ} (g : Go w z i j n) where
     -- the whole is the entries on the stack and the rest of the side that is left, interned
     pub is-left : size (nodeAt (storeOf w₀) b) ≤ j → mergeS m (storeOf w₀) a b ≡ intern (storeOf w) (onto (stackState z) (stackParent z) top n (rest (nodeAt (storeOf w₀) a) i))
-    is-left h = by-entries m w₀ z₀ a b top v₀ d _ _ (right-done m (storeOf w₀) _ _ top z₀ w z i j n sa sb g h)
+    is-left h = by-entries v₀ d _ _ (right-done m (storeOf w₀) _ _ top z₀ w z i j n sa sb g h)
 
     pub is-right : size (nodeAt (storeOf w₀) a) ≤ i → mergeS m (storeOf w₀) a b ≡ intern (storeOf w) (onto (stackState z) (stackParent z) top n (rest (nodeAt (storeOf w₀) b) j))
-    is-right h = by-entries m w₀ z₀ a b top v₀ d _ _ (left-done m (storeOf w₀) _ _ top z₀ w z i j n sa sb g h)
+    is-right h = by-entries v₀ d _ _ (left-done m (storeOf w₀) _ _ top z₀ w z i j n sa sb g h)
 
     -- what the last interning leaves is what the merge leaves
     pub outcome : (k : Node) → mergeS m (storeOf w₀) a b ≡ intern (storeOf w) k → (r : Made) (w′ u : List ℕ) → Extends w z top (intern (storeOf w) k) r w′ u
@@ -69,7 +69,7 @@ module _ (m : Bool) (w₀ z₀ : List ℕ) (a b top : ℕ) (v₀ : Mergeable m w
           → (Fits (mergeS m (storeOf w) (headParent (rest (nodeAt (storeOf w₀) a) i)) (headParent (rest (nodeAt (storeOf w₀) b) j)) .1) → ⊥) → Stuck w w₁ z₁
           → (Fits (mergeS m (storeOf w₀) a b .1) → ⊥) × Stuck w₀ w₁ z₁
       no-room h w₁ z₁ full s = (
-        λ f. no-inner m (storeOf w₀) _ _ top z₀ w z i j n sa sb room hi hj g h full (rw (by-entries m w₀ z₀ a b top v₀ d _ _ refl) at f),
+        λ f. no-inner m (storeOf w₀) _ _ top z₀ w z i j n sa sb room hi hj g h full (rw (by-entries v₀ d _ _ refl) at f),
         stuck-inside m (storeOf w₀) _ _ top w₀ z₀ w z i j n refl g w₁ z₁ s,
       )
 
@@ -80,8 +80,8 @@ module _ (m : Bool) (w₀ z₀ : List ℕ) (a b top : ℕ) (v₀ : Mergeable m w
           let s₀ = storeOf w₀ in
           let p = headParent (rest (nodeAt s₀ a) i) in
           let q = headParent (rest (nodeAt s₀ b) j) in
-          let lp : p ≤ a = head-le w₀ z₀ (v₀ .live) a (v₀ .left) i in
-          let lq : q ≤ b = head-le w₀ z₀ (v₀ .live) b (v₀ .right) j in
+          let lp : p ≤ a = head-le (v₀ .live) a (v₀ .left) i in
+          let lq : q ≤ b = head-le (v₀ .live) b (v₀ .right) j in
           let l : length s₀ ≤ length (storeOf w) = grew-length s₀ (storeOf w) (g .grew) in
           record {
             live = g .live;
@@ -94,11 +94,11 @@ module _ (m : Bool) (w₀ z₀ : List ℕ) (a b top : ℕ) (v₀ : Mergeable m w
   -- the sum of the numbers falls
   pub falls : (i j : ℕ) → headParent (rest (nodeAt (storeOf w₀) a) i) + headParent (rest (nodeAt (storeOf w₀) b) j) < a + b
   falls i j =
-      let la = head-le w₀ z₀ (v₀ .live) a (v₀ .left) i in
-      let lb = head-le w₀ z₀ (v₀ .live) b (v₀ .right) j in
+      let la = head-le (v₀ .live) a (v₀ .left) i in
+      let lb = head-le (v₀ .live) b (v₀ .right) j in
       two a 0
-      (λ e. omega (arith, head-before w₀ z₀ (v₀ .live) b (v₀ .right) (positive e) j))
-      (λ n. omega (arith, head-before w₀ z₀ (v₀ .live) a (v₀ .left) (omega arith) i))
+      (λ e. omega (arith, head-before (v₀ .live) b (v₀ .right) (positive e) j))
+      (λ n. omega (arith, head-before (v₀ .live) a (v₀ .left) (omega arith) i))
     where
       positive : a ≡ 0 → 0 < b
       positive e = two b 0 (λ q. absurd (d .differ (e ∙ sym q))) (λ n. omega arith)

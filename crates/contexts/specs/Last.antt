@@ -75,7 +75,7 @@ withLast w z c top n = intern (storeOf w) (onto (stackState z) (stackParent z) t
 
 module _ (w z : List ℕ) (c top n : ℕ) (v : Lasting w z c top n) (p r : ℕ) (ep : p ≡ headParent (nodeAt (storeOf w) c)) (er : r ≡ headState (nodeAt (storeOf w) c)) (y : List ℕ) (ey : y ≡ putEntry z (top + n) p r) where
   known : c < length (storeOf w)
-  known = omega (arith, v .plain .known, live-count w z (v .live))
+  known = omega (arith, v .plain .known, live-count (v .live))
 
   node-small : NodeBelow stop (nodeAt (storeOf w) c)
   node-small = node-below stop (storeOf w) (v .live .good .below) c known

@@ -41,7 +41,7 @@ pub record Grown (z u : List ℕ) (w : List ℕ) (x : ℕ × Store) (c : ℕ) : 
 
 -- ---- what such a store gives
 
-module _ (w z : List ℕ) (v : Live w z) where
+module _ {w z : List ℕ} (v : Live w z) where
   pub live-length : length w ≡ storeWords
   live-length = ap length (v .words) ∙ words-length (storeOf w)
 

@@ -50,9 +50,9 @@ module _ (w z : List ℕ) (place n : ℕ) (v : Pushed w z place n) where
 
   pub pushed-sought : Proper z place n → (h : ℕ) → h ≡ nodeHash (hash (storeOf w)) (stackNode z place n) → Sought w z (count w) place n h
   pushed-sought p h e = record {
-    records = live-records w z (v .live);
+    records = live-records (v .live);
     index = v .live .index;
-    stacked = rw (live-count w z (v .live)) (v .stacked);
+    stacked = rw (live-count (v .live)) (v .stacked);
     proper = p;
     hashed = e;
   }
@@ -102,14 +102,14 @@ module _ (w z : List ℕ) (place n h : ℕ) (v : Missing w z place n h) where
   new-size = listing-size (stackState z) (stackParent z) place n (length (storeOf w)) (v .pushed .stacked .entries)
 
   pub no-context : 512 ≤ count w → Fits (intern (storeOf w) (stackNode z place n) .1) → ⊥
-  no-context l f = let g : Fits (stackNode z place n ∷ storeOf w) = rw made-is at f in omega (arith, live-count w z (v .pushed .live), g .0)
+  no-context l f = let g : Fits (stackNode z place n ∷ storeOf w) = rw made-is at f in omega (arith, live-count (v .pushed .live), g .0)
 
   pub no-entries : 2 ≤ n → 2048 - used w < n → Fits (intern (storeOf w) (stackNode z place n) .1) → ⊥
   unfolding pool
   no-entries k l f =
       let g : Fits (stackNode z place n ∷ storeOf w) = rw made-is at f in
       let r : room (stackNode z place n) ≡ n = many-room (stackNode z place n) (rw new-size k) ∙ new-size in
-      omega (arith, live-used w z (v .pushed .live), g .1, r)
+      omega (arith, live-used (v .pushed .live), g .1, r)
 
   -- the record is written and indexed
   made : (w′ u : List ℕ) → Fits (stackNode z place n ∷ storeOf w) → w′ ≡ written w (storeOf w) (stackNode z place n) → u ≡ putIndex z (count w) h
@@ -119,14 +119,14 @@ module _ (w z : List ℕ) (place n h : ℕ) (v : Missing w z place n h) where
       let k = stackNode z place n in
       let e : Rattle.layout.specs.Listing.Entries (stackState z) (stackParent z) place n (length s) = v .pushed .stacked .entries in
       let g : GoodStore (k ∷ s) = grown s k (v .pushed .live .good) (pushed-rise w z place n (v .pushed)) new-full (listing-below (stackState z) (stackParent z) place n (length s) e) (v .missing) f in
-      let c : count w ≡ length s = live-count w z (v .pushed .live) in
+      let c : count w ≡ length s = live-count (v .pushed .live) in
       let i : Indexed (k ∷ s) u = rw eu (subst (λ (x : ℕ). Indexed (k ∷ s) (putIndex z x h)) (sym c) (index-add s k z h (omega (arith, f .0)) (v .hashed) (v .pushed .live .index))) in
       let o = words-live w′ u (k ∷ s) g (ew ∙ ap (λ (x : List ℕ). written x s k) (v .pushed .live .words) ∙ sym (words-grown s k)) i in
       record { number = c ∙ sym (ap (λ (y : ℕ × Store). y .0) made-is); store = o .0 ∙ sym (ap (λ (y : ℕ × Store). y .1) made-is); live = o .1; above = index-above u eu f }
     where
       index-above : (u : List ℕ) → u ≡ putIndex z (count w) h → Fits (stackNode z place n ∷ storeOf w) → SameAbove z u
       index-above u eu f j l =
-          let c : count w ≡ length (storeOf w) = live-count w z (v .pushed .live) in
+          let c : count w ≡ length (storeOf w) = live-count (v .pushed .live) in
           let b : bucketOf h < 256 = bucket-small h (rw (v .hashed) (nodeHash-below (hash (storeOf w)) (stackNode z place n))) in
           let k : count w < 512 = omega (arith, f .0) in
           ap (λ (x : List ℕ). getD x j 0) eu ∙ put-other z (count w) h (v .pushed .stacked .sized) k b j (omega arith) (omega arith) (omega arith) (omega arith)
@@ -138,10 +138,10 @@ module _ (w z : List ℕ) (place n h : ℕ) (v : Missing w z place n h) where
   unfolding pool room Rattle.arena.specs.Kinds.kindOf
   made-single o l p r ep er w′ u ew eu =
       let s = storeOf w in
-      let c : count w ≡ length s = live-count w z (v .pushed .live) in
-      let d : used w ≡ pool s = live-used w z (v .pushed .live) in
+      let c : count w ≡ length s = live-count (v .pushed .live) in
+      let d : used w ≡ pool s = live-used (v .pushed .live) in
       let k : stackNode z place n ≡ push r p end = rw o (single-node z place (rw o at (v .proper)) ∙ rw (ep, er)) in
-      made w′ u (omega (arith, live-count w z (v .pushed .live)), rw k (omega (arith, v .pushed .live .good .fits .1)))
+      made w′ u (omega (arith, live-count (v .pushed .live)), rw k (omega (arith, v .pushed .live .good .fits .1)))
       (ew ∙ single-eq w (count w) (length s) (used w) (pool s) p r c d ∙ sym (written-single w s r p) ∙ ap (written w s) (sym k)) eu
 
   -- and for several
@@ -151,10 +151,10 @@ module _ (w z : List ℕ) (place n h : ℕ) (v : Missing w z place n h) where
   unfolding pool
   made-array t l m w′ u ew eu =
       let s = storeOf w in
-      let c : count w ≡ length s = live-count w z (v .pushed .live) in
-      let d : used w ≡ pool s = live-used w z (v .pushed .live) in
+      let c : count w ≡ length s = live-count (v .pushed .live) in
+      let d : used w ≡ pool s = live-used (v .pushed .live) in
       let r : room (stackNode z place n) ≡ n = many-room (stackNode z place n) (rw new-size t) ∙ new-size in
-      made w′ u (omega (arith, live-count w z (v .pushed .live)), omega (arith, v .pushed .live .good .fits .1))
+      made w′ u (omega (arith, live-count (v .pushed .live)), omega (arith, v .pushed .live .good .fits .1))
       (ew ∙ array-eq w (count w) (length s) (used w) (pool s) n (stackNode z place n) c d ∙ sym (written-array w s (stackNode z place n) n new-size t)) eu
 
   -- with the counts that the code has read, and the words after each call

@@ -31,7 +31,7 @@ module _ (m : Bool) (w z : List ℕ) (a b : ℕ) (v : Live w z) (ha : a < count 
   pub begin : Mergeable m w y a b 0
   begin =
       let l = v .index .sized in
-      let c = live-count w z v in
+      let c = live-count v in
       record {
         live = record {
           good = v .good;
@@ -54,8 +54,8 @@ module _ (m : Bool) (w z : List ℕ) (a b : ℕ) (v : Live w z) (ha : a < count 
   module _ (w₁ u : List ℕ) (full : Fits (mergeS m (storeOf w) a b .1) → ⊥) (s : Stuck w w₁ u) where
     pub back : (cr ur : ℕ) → cr ≡ count w → ur ≡ used w → cut w₁ cr ur ≡ w
     back cr ur ec eu =
-        let e : cr ≡ length (storeOf w) = ec ∙ live-count w z v in
-        let f : ur ≡ pool (storeOf w) = eu ∙ live-used w z v in
+        let e : cr ≡ length (storeOf w) = ec ∙ live-count v in
+        let f : ur ≡ pool (storeOf w) = eu ∙ live-used v in
         ap (λ (q : List ℕ). cut q cr ur) (s .words) ∙ cut-at (wordsOf (storeOf w₁)) cr (length (storeOf w)) ur (pool (storeOf w)) e f ∙
         cut-back (storeOf w) (storeOf w₁) (s .good) (v .good .some) (s .grew) ∙ sym (v .words)
       where

@@ -89,7 +89,7 @@ module _ (w z : List ℕ) (v : Live w z) (p r : ℕ) (hp : p < count w) (hr : r 
       room = omega arith;
       entries = record {
         fit = λ j a b. let q : j ≡ 0 = omega arith in rw (q, put-state) (omega arith);
-        older = λ j a b. let q : j ≡ 0 = omega arith in rw (q, put-parent) (rw (live-count w z v) at hp);
+        older = λ j a b. let q : j ≡ 0 = omega arith in rw (q, put-parent) (rw (live-count v) at hp);
         rise = λ j a b. absurd (omega arith);
         dollar = λ j a b s. let q : j ≡ 0 = omega arith in absurd (omega (arith, sym put-state ∙ ap (stackState y) (sym q) ∙ s));
       };
@@ -100,7 +100,7 @@ module _ (w z : List ℕ) (v : Live w z) (p r : ℕ) (hp : p < count w) (hr : r 
   single-is = single-node y 0 (record { some = omega arith; notDollar = λ _. rw put-state hr }) ∙ rw (put-state, put-parent)
 
   pub single-place : place (storeOf w) (over r (tree (storeOf w) p) none) ≡ intern (storeOf w) (stackNode y 0 1)
-  single-place = place-single (storeOf w) (v .good .sound) r p (rw (live-count w z v) at hp) ∙ ap (intern (storeOf w)) (sym single-is)
+  single-place = place-single (storeOf w) (v .good .sound) r p (rw (live-count v) at hp) ∙ ap (intern (storeOf w)) (sym single-is)
 
 -- ---- what a call that interned leaves
 

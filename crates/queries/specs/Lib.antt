@@ -4,5 +4,5 @@ pub mod Answers
 pub mod Sentences
 pub mod Listed
 pub mod Known
-pub mod Leaves
+pub mod Asks
 pub mod Determined

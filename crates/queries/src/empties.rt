@@ -1,7 +1,7 @@
 // Which context is the set with only the empty stack.
 use crate::answers::Answered;
+use crate::ask::ask;
 use store::inner::admit::Admitted;
-use store::inner::admit::admit;
 use words::ContextId;
 ghost use mathlib.Core.Path.{_≡_};
 ghost use Rattle.queries.specs.Answers.{answered, left};
@@ -12,11 +12,10 @@ pub fn is_empty(store: &[u32], scratch: &mut [u32], context: ContextId) -> Answe
     ensures { λ r. ⌜ left (answered r) (now (store .entry)) (now (scratch .exit))
         ≡ isEmptyCall (now (store .entry)) (now (scratch .entry)) (context .0) ⌝ }
 {
-    let admitted = admit(store, scratch, context);
-    if let Admitted::Refused(refusal) = admitted {
+    let asked = ask(store, scratch, context);
+    if let Admitted::Refused(refusal) = asked {
         return Answered::Refused(refusal);
     }
-    words::clear(scratch);
     if context.0 == 0 {
         return Answered::Yes;
     }

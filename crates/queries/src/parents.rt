@@ -1,7 +1,7 @@
 // The parent of a context's entry at an index.
 use crate::answers::ParentFound;
+use crate::ask::ask;
 use store::inner::admit::Admitted;
-use store::inner::admit::admit;
 use words::ContextId;
 ghost use mathlib.Core.Path.{_≡_};
 ghost use Rattle.layout.specs.Layout.{kind};
@@ -45,11 +45,9 @@ pub fn parent(store: &[u32], scratch: &mut [u32], context: ContextId, index: u32
     ensures { λ r. ⌜ left (parentFound r) (now (store .entry)) (now (scratch .exit))
         ≡ parentCall (now (store .entry)) (now (scratch .entry)) (context .0) index ⌝ }
 {
-    let admitted = admit(store, scratch, context);
-    if let Admitted::Refused(refusal) = admitted {
+    let asked = ask(store, scratch, context);
+    if let Admitted::Refused(refusal) = asked {
         return ParentFound::Refused(refusal);
     }
-    let found = parent_at(store, context.0 as usize, index);
-    words::clear(scratch);
-    found
+    parent_at(store, context.0 as usize, index)
 }

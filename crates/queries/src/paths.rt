@@ -1,7 +1,7 @@
 // Which contexts have the empty stack in their set.
 use crate::answers::Answered;
+use crate::ask::ask;
 use store::inner::admit::Admitted;
-use store::inner::admit::admit;
 use words::COMPACT_EMPTY_RETURN_STATE;
 use words::ContextId;
 ghost use mathlib.Core.Path.{_≡_};
@@ -32,13 +32,11 @@ pub fn has_empty_path(store: &[u32], scratch: &mut [u32], context: ContextId) ->
     ensures { λ r. ⌜ left (answered r) (now (store .entry)) (now (scratch .exit))
         ≡ hasEmptyPathCall (now (store .entry)) (now (scratch .entry)) (context .0) ⌝ }
 {
-    let admitted = admit(store, scratch, context);
-    if let Admitted::Refused(refusal) = admitted {
+    let asked = ask(store, scratch, context);
+    if let Admitted::Refused(refusal) = asked {
         return Answered::Refused(refusal);
     }
-    let found = ends_in_mark(store, context.0 as usize);
-    words::clear(scratch);
-    if found {
+    if ends_in_mark(store, context.0 as usize) {
         return Answered::Yes;
     }
     Answered::No

@@ -1,7 +1,7 @@
 // How many entries a context has.
 use crate::answers::Counted;
+use crate::ask::ask;
 use store::inner::admit::Admitted;
-use store::inner::admit::admit;
 use words::ContextId;
 ghost use mathlib.Core.Path.{_≡_};
 ghost use Rattle.arena.specs.Store.{nodeAt};
@@ -28,11 +28,9 @@ pub fn len(store: &[u32], scratch: &mut [u32], context: ContextId) -> Counted
     ensures { λ r. ⌜ left (counted r) (now (store .entry)) (now (scratch .exit))
         ≡ lenCall (now (store .entry)) (now (scratch .entry)) (context .0) ⌝ }
 {
-    let admitted = admit(store, scratch, context);
-    if let Admitted::Refused(refusal) = admitted {
+    let asked = ask(store, scratch, context);
+    if let Admitted::Refused(refusal) = asked {
         return Counted::Refused(refusal);
     }
-    let n = entry_count(store, context.0 as usize);
-    words::clear(scratch);
-    Counted::Count(n)
+    Counted::Count(entry_count(store, context.0 as usize))
 }

@@ -1,7 +1,7 @@
 // The return state of a context's entry at an index.
 use crate::answers::StateFound;
+use crate::ask::ask;
 use store::inner::admit::Admitted;
-use store::inner::admit::admit;
 use words::CompactState;
 use words::ContextId;
 use words::EMPTY_RETURN_STATE;
@@ -56,11 +56,9 @@ pub fn return_state(
     ensures { λ r. ⌜ left (stateFound r) (now (store .entry)) (now (scratch .exit))
         ≡ returnStateCall (now (store .entry)) (now (scratch .entry)) (context .0) index ⌝ }
 {
-    let admitted = admit(store, scratch, context);
-    if let Admitted::Refused(refusal) = admitted {
+    let asked = ask(store, scratch, context);
+    if let Admitted::Refused(refusal) = asked {
         return StateFound::Refused(refusal);
     }
-    let found = state_at(store, context.0 as usize, index);
-    words::clear(scratch);
-    found
+    state_at(store, context.0 as usize, index)
 }

@@ -17,35 +17,45 @@ abbrev μ-loop : tie.MeasureT-loop
 loop-holds : tie.Need-loop-holds Inv-loop μ-loop
 loop-holds c = (refl, refl)
 
-run-step-requires : tie.Need-run-step-requires Inv-loop μ-loop
-run-step-requires c κs = search needs
-
-enum-known-ran : tie.Need-enum-known-ran Inv-loop μ-loop
-enum-known-ran c = search needs
-
 write-reply-requires : tie.Need-write-reply-requires Inv-loop μ-loop
-write-reply-requires c κs = omega (arith, rw (c .before .before .before .ran .given .1) at (c .before .before .before .before .before .before .before .before .before .run-step .ensures .1))
+write-reply-requires c κs =
+    let run-step = c .before .before .before .before .before .before .before .before .before .run-step in
+    omega (arith, rw (c .before .before .before .ran .given .1) at (run-step .ensures .1))
 
 loop-less : tie.Need-loop-less Inv-loop μ-loop
-loop-less c = omega (arith, ran-forward (c .before .before .before .before .before .before .before .before .before .before .before .before .before .before .before .before .before .before .args .bytes .now) (c .before .before .before .before .before .before .before .before .before .before .before .before .before .before .loop .at) (c .before .before .before .before .before .before .before .before .before .before .before .before .before .before .loop .store) (c .before .before .before .before .before .before .before .before .before .before .before .before .before .before .loop .scratch) (c .before .before .before .before .before .before .before .before .before .before .before .before .before .before .loop .out) (c .before .before .before .before .ran .given .0 .0) (c .before .before .before .before .ran .given .0 .1 .0) _ _ _ (rw (c .before .before .before .before .ran .given .1) at (c .before .before .before .before .before .before .before .before .before .before .run-step .ensures .0)))
+loop-less c =
+    let args = c .before .before .before .before .before .before .before .before .before .before .before .before .before .before .before .before .before .before .args in
+    let loop = c .before .before .before .before .before .before .before .before .before .before .before .before .before .before .loop in
+    let run-step = c .before .before .before .before .before .before .before .before .before .before .run-step in
+    let ran = c .before .before .before .before .ran in
+    omega (
+      arith,
+      ran-forward (args .bytes .now) (loop .at) (loop .store) (loop .scratch) (loop .out) (ran .given .0 .0) (ran .given .0 .1 .0) _
+          _ _ (rw (ran .given .1) at (run-step .ensures .0)),
+    )
 
 loop-again : tie.Need-loop-again Inv-loop μ-loop
-loop-again c = (c .before .before .before .before .before .before .before .before .before .before .run-step .kept .1 .1 .0 ∙ c .before .before .before .before .before .before .before .before .before .before .before .before .before .before .loop .inv .0, c .before .before .before .before .before .before .before .before .before .before .run-step .kept .1 .1 .1 .0 ∙ c .before .before .before .before .before .before .before .before .before .before .before .before .before .before .loop .inv .1)
-
-enum-known-ran-2 : tie.Need-enum-known-ran-2 Inv-loop μ-loop
-enum-known-ran-2 c = search needs
+loop-again c =
+    let loop = c .before .before .before .before .before .before .before .before .before .before .before .before .before .before .loop in
+    let run-step = c .before .before .before .before .before .before .before .before .before .before .run-step in
+    (run-step .kept .1 .1 .0 ∙ loop .inv .0, run-step .kept .1 .1 .1 .0 ∙ loop .inv .1)
 
 write-reply-requires-2 : tie.Need-write-reply-requires-2 Inv-loop μ-loop
-write-reply-requires-2 c κs = omega (arith, rw (c .before .before .before .ran2 .given .1) at (c .before .before .before .before .before .before .before .before .before .run-step .ensures .1))
+write-reply-requires-2 c κs =
+    let run-step = c .before .before .before .before .before .before .before .before .before .run-step in
+    omega (arith, rw (c .before .before .before .ran2 .given .1) at (run-step .ensures .1))
 
 same-length : tie.Need-same-length Inv-loop μ-loop
-same-length c = c .before .before .before .before .before .before .before .before .before .before .run-step .kept .1 .1 .0 ∙ c .before .before .before .before .before .before .before .before .before .before .before .before .before .before .loop .inv .0
+same-length c =
+    let loop = c .before .before .before .before .before .before .before .before .before .before .before .before .before .before .loop in
+    let run-step = c .before .before .before .before .before .before .before .before .before .before .run-step in
+    run-step .kept .1 .1 .0 ∙ loop .inv .0
 
 same-length-2 : tie.Need-same-length-2 Inv-loop μ-loop
-same-length-2 c = c .before .before .before .before .before .before .before .before .before .before .run-step .kept .1 .1 .1 .0 ∙ c .before .before .before .before .before .before .before .before .before .before .before .before .before .before .loop .inv .1
-
-returns : tie.Need-returns Inv-loop μ-loop
-returns c = search needs
+same-length-2 c =
+    let loop = c .before .before .before .before .before .before .before .before .before .before .before .before .before .before .loop in
+    let run-step = c .before .before .before .before .before .before .before .before .before .before .run-step in
+    run-step .kept .1 .1 .1 .0 ∙ loop .inv .1
 
 pub run-script-spec : {M : Type 1} → statement M
 run-script-spec =
@@ -54,13 +64,12 @@ run-script-spec =
     Inv-loop
     μ-loop
     loop-holds
-    run-step-requires
-    enum-known-ran
+    (λ c κs. search needs) (λ c. search needs)
     write-reply-requires
     loop-less
     loop-again
-    enum-known-ran-2
+    (λ c. search needs)
     write-reply-requires-2
     same-length
     same-length-2
-    returns)
+    (λ c. search needs))

@@ -8,18 +8,6 @@ use Rattle.cache.specs.Cache.{clearedCache}
 use Rattle.cache.proofs.keep.clear_cache.Statement.{statement}
 use Rattle.cache.proofs.keep.clear_cache.Tie as tie
 
-add-clear-range : tie.Need-add-clear-range
-add-clear-range c = search needs
-
-clear-range-requires : tie.Need-clear-range-requires
-clear-range-requires c κs = search needs
-
-slice-write-scratch : tie.Need-slice-write-scratch
-slice-write-scratch c = search needs
-
-same-length : tie.Need-same-length
-same-length c = search needs
-
 returns : tie.Need-returns
 unfolding clearedCache
 returns c = ap (λ (t : List ℕ). set t 16336 0) (c .before .before .clear-range .ensures)
@@ -27,4 +15,6 @@ returns c = ap (λ (t : List ℕ). set t 16336 0) (c .before .before .clear-rang
 pub clear-cache-spec : {M : Type 1} → statement M
 clear-cache-spec =
     tie.close
-    (tie.spec add-clear-range clear-range-requires slice-write-scratch same-length returns)
+    (tie.spec
+    (λ c. search needs) (λ c κs. search needs) (λ c. search needs) (λ c. search needs)
+    returns)

@@ -7,20 +7,8 @@ use Rattle.cache.specs.Cache.{putResult}
 use Rattle.cache.proofs.keep.put_result.Statement.{statement}
 use Rattle.cache.proofs.keep.put_result.Tie as tie
 
-add-scratch : tie.Need-add-scratch
-add-scratch c = search needs
-
-mul-scratch : tie.Need-mul-scratch
-mul-scratch c = search needs
-
-slice-write-scratch : tie.Need-slice-write-scratch
-slice-write-scratch c = search needs
-
 slice-write-scratch-2 : tie.Need-slice-write-scratch-2
 slice-write-scratch-2 c = simp length-set (omega arith)
-
-same-length : tie.Need-same-length
-same-length c = search needs
 
 returns : tie.Need-returns
 unfolding putResult
@@ -30,9 +18,7 @@ pub put-result-spec : {M : Type 1} → statement M
 put-result-spec =
     tie.close
     (tie.spec
-    add-scratch
-    mul-scratch
-    slice-write-scratch
+    (λ c. search needs) (λ c. search needs) (λ c. search needs)
     slice-write-scratch-2
-    same-length
+    (λ c. search needs)
     returns)

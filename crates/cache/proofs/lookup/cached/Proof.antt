@@ -13,26 +13,8 @@ Inv-loop scratch sides place₀ tried₀ place tried = place < 6144
 abbrev μ-loop : tie.MeasureT-loop
 μ-loop scratch sides place₀ tried₀ place tried = 6144 - tried
 
-pair-requires : tie.Need-pair-requires Inv-loop μ-loop
-pair-requires c κs = search needs
-
-slot-requires : tie.Need-slot-requires Inv-loop μ-loop
-slot-requires c κs = search needs
-
-loop-holds : tie.Need-loop-holds Inv-loop μ-loop
-loop-holds c = search needs
-
-cache-word-requires : tie.Need-cache-word-requires Inv-loop μ-loop
-cache-word-requires c κs = search needs
-
 returns : tie.Need-returns Inv-loop μ-loop
 returns c = tt
-
-sub-if2 : tie.Need-sub-if2 Inv-loop μ-loop
-sub-if2 c = search needs
-
-sub-t11 : tie.Need-sub-t11 Inv-loop μ-loop
-sub-t11 c = search needs
 
 returns-2 : tie.Need-returns-2 Inv-loop μ-loop
 returns-2 c =
@@ -42,20 +24,9 @@ returns-2 c =
       place = at .place;
       inside = at .inv;
       small = omega arith;
-      word = sym (read .ensures) ∙ word-read (read .result) _ (c .before .if1 .left) (c .if2 .taken ∙ c .before .before .before .before .before .before .pair .ensures .0);
+      word = sym (read .ensures) ∙ word-read (read .result) _ (c .before .if1 .left)
+          (c .if2 .taken ∙ c .before .before .before .before .before .before .pair .ensures .0);
     }
-
-next-place-requires : tie.Need-next-place-requires Inv-loop μ-loop
-next-place-requires c κs = search needs
-
-add-tried : tie.Need-add-tried Inv-loop μ-loop
-add-tried c = search needs
-
-loop-less : tie.Need-loop-less Inv-loop μ-loop
-loop-less c = search needs
-
-loop-again : tie.Need-loop-again Inv-loop μ-loop
-loop-again c = search needs
 
 returns-3 : tie.Need-returns-3 Inv-loop μ-loop
 returns-3 c = tt
@@ -66,16 +37,9 @@ cached-spec =
     (tie.spec
     Inv-loop
     μ-loop
-    pair-requires
-    slot-requires
-    loop-holds
-    cache-word-requires
+    (λ c κs. search needs) (λ c κs. search needs) (λ c. search needs) (λ c κs. search needs)
     returns
-    sub-if2
-    sub-t11
+    (λ c. search needs) (λ c. search needs)
     returns-2
-    next-place-requires
-    add-tried
-    loop-less
-    loop-again
+    (λ c κs. search needs) (λ c. search needs) (λ c. search needs) (λ c. search needs)
     returns-3)

@@ -14,7 +14,10 @@ returns-2 : tie.Need-returns-2
 returns-2 c = (not-false (c .before .before .before .args .wildcard) (c .before .before .if1 .left), inl (c .if2 .taken))
 
 returns-3 : tie.Need-returns-3
-returns-3 c = swallows-if (c .before .before .before .before .args .wildcard) (c .before .before .before .before .args .left .0) (c .before .before .before .before .args .right .0) (not-false (c .before .before .before .before .args .wildcard) (c .before .before .before .if1 .left)) (c .before .if2 .left)
+returns-3 c =
+    let args = c .before .before .before .before .args in
+    swallows-if (args .wildcard) (args .left .0) (args .right .0) (not-false (args .wildcard) (c .before .before .before .if1 .left))
+    (c .before .if2 .left)
 
 pub swallows-spec : {M : Type 1} → statement M
 swallows-spec = tie.close (tie.spec returns returns-2 returns-3)

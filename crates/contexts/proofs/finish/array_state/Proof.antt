@@ -5,21 +5,22 @@ use mathlib.Core.Path.{_∙_}
 use Rattle.contexts.proofs.finish.array_state.Statement.{statement}
 use Rattle.contexts.proofs.finish.array_state.Tie as tie
 
-first-of-requires : tie.Need-first-of-requires
-first-of-requires c κs = search needs
-
-cast-from : tie.Need-cast-from
-cast-from c = search needs
-
 add-pool-state : tie.Need-add-pool-state
 add-pool-state c = omega (arith, c .first-of .ensures)
 
 pool-state-requires : tie.Need-pool-state-requires
-pool-state-requires c κs = (c .before .before .pre .0, rw (c .first-of .ensures) (c .before .before .pre .2))
+pool-state-requires c κs =
+    let pre = c .before .before .pre in
+    (pre .0, rw (c .first-of .ensures) (pre .2))
 
 returns : tie.Need-returns
 returns c = c .pool-state .ensures ∙ rw (c .before .first-of .ensures)
 
 pub array-state-spec : {M : Type 1} → statement M
 array-state-spec =
-    tie.close (tie.spec first-of-requires cast-from add-pool-state pool-state-requires returns)
+    tie.close
+    (tie.spec
+    (λ c κs. search needs) (λ c. search needs)
+    add-pool-state
+    pool-state-requires
+    returns)

@@ -9,58 +9,106 @@ use Rattle.contexts.proofs.finish.intern_with_rest.Statement.{statement
 use Rattle.contexts.proofs.finish.intern_with_rest.Tie as tie
 
 first-of-requires : tie.Need-first-of-requires
-first-of-requires c κs = (live-length (c .before .before .before .args .store .now) (c .before .before .before .args .scratch .now) (c .before .before .before .pre .live), (omega (arith, c .before .before .before .pre .known, live-sound (c .before .before .before .args .store .now) (c .before .before .before .args .scratch .now) (c .before .before .before .pre .live) .counted .1)))
-
-cast-from : tie.Need-cast-from
-cast-from c = search needs
+first-of-requires c κs =
+    let args = c .before .before .before .args in
+    let pre = c .before .before .before .pre in (
+      live-length (pre .live),
+      (omega (arith, pre .known, live-sound (pre .live) .counted .1)),
+    )
 
 add-from : tie.Need-add-from
-add-from c = omega (arith, c .first-of .ensures, c .before .before .before .before .pre .within, array-within (c .before .before .before .before .args .store .now) (c .before .before .before .before .args .scratch .now) (c .before .before .before .before .pre .live) (c .before .before .before .before .args .context) (c .before .before .before .before .pre .known) (c .before .before .before .before .pre .array))
+add-from c =
+    let pre = c .before .before .before .before .pre in
+    let args = c .before .before .before .before .args in
+    omega (
+      arith,
+      c .first-of .ensures,
+      pre .within,
+      array-within (pre .live) (args .context)
+          (pre .known) (pre .array),
+    )
 
 second-of-requires : tie.Need-second-of-requires
-second-of-requires c κs = (live-length (c .before .before .before .before .before .args .store .now) (c .before .before .before .before .before .args .scratch .now) (c .before .before .before .before .before .pre .live), (omega (arith, c .before .before .before .before .before .pre .known, live-sound (c .before .before .before .before .before .args .store .now) (c .before .before .before .before .before .args .scratch .now) (c .before .before .before .before .before .pre .live) .counted .1)))
-
-cast-left : tie.Need-cast-left
-cast-left c = search needs
+second-of-requires c κs =
+    let args = c .before .before .before .before .before .args in
+    let pre = c .before .before .before .before .before .pre in (
+      live-length (pre .live),
+      (omega (arith, pre .known, live-sound (pre .live) .counted .1)),
+    )
 
 sub-left : tie.Need-sub-left
-sub-left c = omega (arith, c .second-of .ensures, c .before .before .before .before .before .before .pre .within)
+sub-left c =
+    let pre = c .before .before .before .before .before .before .pre in
+    omega (arith, c .second-of .ensures, pre .within)
 
 add-load-entries : tie.Need-add-load-entries
-add-load-entries c = omega (arith, c .before .before .before .before .before .before .before .before .pre .room)
+add-load-entries c =
+    let pre = c .before .before .before .before .before .before .before .before .pre in
+    omega (arith, pre .room)
 
 load-entries-requires : tie.Need-load-entries-requires
-load-entries-requires c κs = ((live-length (c .before .before .before .before .before .before .before .before .args .store .now) (c .before .before .before .before .before .before .before .before .args .scratch .now) (c .before .before .before .before .before .before .before .before .pre .live), omega (arith, c .before .before .before .before .first-of .ensures, c .before .before .second-of .ensures, c .before .before .before .before .before .before .before .before .pre .within, array-within (c .before .before .before .before .before .before .before .before .args .store .now) (c .before .before .before .before .before .before .before .before .args .scratch .now) (c .before .before .before .before .before .before .before .before .pre .live) (c .before .before .before .before .before .before .before .before .args .context) (c .before .before .before .before .before .before .before .before .pre .known) (c .before .before .before .before .before .before .before .before .pre .array))), (c .before .before .before .before .before .before .before .before .pre .live .index .sized, omega (arith, c .before .before .second-of .ensures, c .before .before .before .before .before .before .before .before .pre .room)))
+load-entries-requires c κs =
+    let args = c .before .before .before .before .before .before .before .before .args in
+    let pre = c .before .before .before .before .before .before .before .before .pre in
+    let first-of = c .before .before .before .before .first-of in
+    let second-of = c .before .before .second-of in (
+      (
+        live-length (pre .live),
+        omega (
+          arith,
+          first-of .ensures,
+          second-of .ensures,
+          pre .within,
+          array-within (pre .live)
+              (args .context) (pre .known) (pre .array),
+        ),
+      ),
+      (pre .live .index .sized, omega (arith, second-of .ensures, pre .room)),
+    )
 
 add-intern-entries : tie.Need-add-intern-entries
-add-intern-entries c = omega (arith, c .before .before .before .before .before .before .before .second-of .ensures, c .before .before .before .before .before .before .before .before .before .before .before .before .before .pre .room)
+add-intern-entries c =
+    let pre = c .before .before .before .before .before .before .before .before .before .before .before .before .before .pre in
+    let second-of = c .before .before .before .before .before .before .before .second-of in
+    omega (arith, second-of .ensures, pre .room)
 
 intern-entries-requires : tie.Need-intern-entries-requires
-intern-entries-requires c κs = finish-pushed (c .before .before .before .before .before .before .before .before .before .before .before .before .before .args .store .now) (c .before .before .before .before .before .before .before .before .before .before .before .before .before .args .scratch .now) (c .before .before .before .before .before .before .before .before .before .before .before .before .before .args .context) (c .before .before .before .before .before .before .before .before .before .before .before .before .before .args .i) (c .before .before .before .before .before .before .before .before .before .before .before .before .before .args .top) (c .before .before .before .before .before .before .before .before .before .before .before .before .before .args .n) (c .before .before .before .before .before .before .before .before .before .before .before .before .before .pre) (c .before .before .before .before .before .before .before .before .before .first-of .result + c .before .before .before .before .before .before .before .before .before .before .before .before .before .args .i) (c .before .before .before .before .before .before .before .second-of .result - c .before .before .before .before .before .before .before .before .before .before .before .before .before .args .i) (ap (λ (x : ℕ). x + c .before .before .before .before .before .before .before .before .before .before .before .before .before .args .i) (c .before .before .before .before .before .before .before .before .before .first-of .ensures)) (ap (λ (x : ℕ). x - c .before .before .before .before .before .before .before .before .before .before .before .before .before .args .i) (c .before .before .before .before .before .before .before .second-of .ensures)) (c .before .before .before .before .load-entries .last .1 .0) (c .before .before .before .before .load-entries .ensures)
-
-same-length : tie.Need-same-length
-same-length c = search needs
-
-same-length-2 : tie.Need-same-length-2
-same-length-2 c = search needs
+intern-entries-requires c κs =
+    let args = c .before .before .before .before .before .before .before .before .before .before .before .before .before .args in
+    let pre = c .before .before .before .before .before .before .before .before .before .before .before .before .before .pre in
+    let first-of = c .before .before .before .before .before .before .before .before .before .first-of in
+    let second-of = c .before .before .before .before .before .before .before .second-of in
+    let load-entries = c .before .before .before .before .load-entries in
+    finish-pushed (args .store .now) (args .scratch .now) (args .context) (args .i) (args .top) (args .n) pre (first-of .result + args .i)
+    (second-of .result - args .i) (ap (λ (x : ℕ). x + args .i) (first-of .ensures)) (ap (λ (x : ℕ). x - args .i) (second-of .ensures))
+    (load-entries .last .1 .0) (load-entries .ensures)
 
 returns : tie.Need-returns
-returns c = finished (c .before .before .before .before .before .before .before .before .before .before .before .before .before .before .before .before .before .before .args .store .now) (c .before .before .before .before .before .before .before .before .before .before .before .before .before .before .before .before .before .before .args .scratch .now) (c .before .before .before .before .before .before .before .before .before .before .before .before .before .before .before .before .before .before .args .context) (c .before .before .before .before .before .before .before .before .before .before .before .before .before .before .before .before .before .before .args .i) (c .before .before .before .before .before .before .before .before .before .before .before .before .before .before .before .before .before .before .args .top) (c .before .before .before .before .before .before .before .before .before .before .before .before .before .before .before .before .before .before .args .n) (c .before .before .before .before .before .before .before .before .before .before .before .before .before .before .before .before .before .before .pre) (c .before .before .before .before .before .before .before .before .before .before .before .before .before .before .first-of .result + c .before .before .before .before .before .before .before .before .before .before .before .before .before .before .before .before .before .before .args .i) (c .before .before .before .before .before .before .before .before .before .before .before .before .second-of .result - c .before .before .before .before .before .before .before .before .before .before .before .before .before .before .before .before .before .before .args .i) (ap (λ (x : ℕ). x + c .before .before .before .before .before .before .before .before .before .before .before .before .before .before .before .before .before .before .args .i) (c .before .before .before .before .before .before .before .before .before .before .before .before .before .before .first-of .ensures)) (ap (λ (x : ℕ). x - c .before .before .before .before .before .before .before .before .before .before .before .before .before .before .before .before .before .before .args .i) (c .before .before .before .before .before .before .before .before .before .before .before .before .second-of .ensures)) (c .before .before .before .before .before .before .before .before .before .load-entries .last .1 .0) (c .before .before .before .before .before .before .before .before .before .load-entries .ensures) (c .before .before .before .before .intern-entries .result) (c .before .before .before .before .intern-entries .last .0) (c .before .before .before .before .intern-entries .last .1 .0) (c .before .before .before .before .intern-entries .ensures)
+returns c =
+    let args = c .before .before .before .before .before .before .before .before .before .before .before .before .before .before .before .before .before .before .args in
+    let pre = c .before .before .before .before .before .before .before .before .before .before .before .before .before .before .before .before .before .before .pre in
+    let first-of = c .before .before .before .before .before .before .before .before .before .before .before .before .before .before .first-of in
+    let second-of = c .before .before .before .before .before .before .before .before .before .before .before .before .second-of in
+    let load-entries = c .before .before .before .before .before .before .before .before .before .load-entries in
+    let intern-entries = c .before .before .before .before .intern-entries in
+    finished (args .store .now) (args .scratch .now) (args .context) (args .i) (args .top) (args .n) pre (first-of .result + args .i)
+    (second-of .result - args .i) (ap (λ (x : ℕ). x + args .i) (first-of .ensures)) (ap (λ (x : ℕ). x - args .i) (second-of .ensures))
+    (load-entries .last .1 .0) (load-entries .ensures) (intern-entries .result) (intern-entries .last .0) (intern-entries .last .1 .0)
+    (intern-entries .ensures)
 
 pub intern-with-rest-spec : {M : Type 1} → statement M
 intern-with-rest-spec =
     tie.close
     (tie.spec
     first-of-requires
-    cast-from
+    (λ c. search needs)
     add-from
     second-of-requires
-    cast-left
+    (λ c. search needs)
     sub-left
     add-load-entries
     load-entries-requires
     add-intern-entries
     intern-entries-requires
-    same-length
-    same-length-2
+    (λ c. search needs) (λ c. search needs)
     returns)

@@ -9,28 +9,46 @@ single-parent-requires : tie.Need-single-parent-requires
 single-parent-requires c κs = c .before .before .before .pre .plain
 
 single-state-requires : tie.Need-single-state-requires
-single-state-requires c κs = c .before .before .before .before .before .pre .plain
+single-state-requires c κs =
+    let pre = c .before .before .before .before .before .pre in
+    pre .plain
 
 add-put-entry : tie.Need-add-put-entry
-add-put-entry c = omega (arith, c .before .before .before .before .before .before .before .pre .room)
+add-put-entry c =
+    let pre = c .before .before .before .before .before .before .before .pre in
+    omega (arith, pre .room)
 
 put-entry-requires : tie.Need-put-entry-requires
-put-entry-requires c κs = (c .before .before .before .before .before .before .before .pre .live .index .sized, c .before .before .before .before .before .before .before .pre .room)
+put-entry-requires c κs =
+    let pre = c .before .before .before .before .before .before .before .pre in
+    (pre .live .index .sized, pre .room)
 
 add-intern-entries : tie.Need-add-intern-entries
-add-intern-entries c = omega (arith, c .before .before .before .before .before .before .before .before .before .before .before .before .pre .room)
+add-intern-entries c =
+    let pre = c .before .before .before .before .before .before .before .before .before .before .before .before .pre in
+    omega (arith, pre .room)
 
 intern-entries-requires : tie.Need-intern-entries-requires
-intern-entries-requires c κs = last-pushed (c .before .before .before .before .before .before .before .before .before .before .before .before .args .store .now) (c .before .before .before .before .before .before .before .before .before .before .before .before .args .scratch .now) (c .before .before .before .before .before .before .before .before .before .before .before .before .args .context) (c .before .before .before .before .before .before .before .before .before .before .before .before .args .top) (c .before .before .before .before .before .before .before .before .before .before .before .before .args .n) (c .before .before .before .before .before .before .before .before .before .before .before .before .pre) (c .before .before .before .before .before .before .before .before .single-parent .result) (c .before .before .before .before .before .before .single-state .result) (c .before .before .before .before .before .before .before .before .single-parent .ensures) (c .before .before .before .before .before .before .single-state .ensures) (c .before .before .before .before .put-entry .last .0) (c .before .before .before .before .put-entry .ensures)
-
-same-length : tie.Need-same-length
-same-length c = search needs
-
-same-length-2 : tie.Need-same-length-2
-same-length-2 c = search needs
+intern-entries-requires c κs =
+    let args = c .before .before .before .before .before .before .before .before .before .before .before .before .args in
+    let pre = c .before .before .before .before .before .before .before .before .before .before .before .before .pre in
+    let single-parent = c .before .before .before .before .before .before .before .before .single-parent in
+    let single-state = c .before .before .before .before .before .before .single-state in
+    let put-entry = c .before .before .before .before .put-entry in
+    last-pushed (args .store .now) (args .scratch .now) (args .context) (args .top) (args .n) pre (single-parent .result) (single-state .result)
+    (single-parent .ensures) (single-state .ensures) (put-entry .last .0) (put-entry .ensures)
 
 returns : tie.Need-returns
-returns c = lasted (c .before .before .before .before .before .before .before .before .before .before .before .before .before .before .before .before .before .args .store .now) (c .before .before .before .before .before .before .before .before .before .before .before .before .before .before .before .before .before .args .scratch .now) (c .before .before .before .before .before .before .before .before .before .before .before .before .before .before .before .before .before .args .context) (c .before .before .before .before .before .before .before .before .before .before .before .before .before .before .before .before .before .args .top) (c .before .before .before .before .before .before .before .before .before .before .before .before .before .before .before .before .before .args .n) (c .before .before .before .before .before .before .before .before .before .before .before .before .before .before .before .before .before .pre) (c .before .before .before .before .before .before .before .before .before .before .before .before .before .single-parent .result) (c .before .before .before .before .before .before .before .before .before .before .before .single-state .result) (c .before .before .before .before .before .before .before .before .before .before .before .before .before .single-parent .ensures) (c .before .before .before .before .before .before .before .before .before .before .before .single-state .ensures) (c .before .before .before .before .before .before .before .before .before .put-entry .last .0) (c .before .before .before .before .before .before .before .before .before .put-entry .ensures) (c .before .before .before .before .intern-entries .result) (c .before .before .before .before .intern-entries .last .0) (c .before .before .before .before .intern-entries .last .1 .0) (c .before .before .before .before .intern-entries .ensures)
+returns c =
+    let args = c .before .before .before .before .before .before .before .before .before .before .before .before .before .before .before .before .before .args in
+    let pre = c .before .before .before .before .before .before .before .before .before .before .before .before .before .before .before .before .before .pre in
+    let single-parent = c .before .before .before .before .before .before .before .before .before .before .before .before .before .single-parent in
+    let single-state = c .before .before .before .before .before .before .before .before .before .before .before .single-state in
+    let put-entry = c .before .before .before .before .before .before .before .before .before .put-entry in
+    let intern-entries = c .before .before .before .before .intern-entries in
+    lasted (args .store .now) (args .scratch .now) (args .context) (args .top) (args .n) pre (single-parent .result) (single-state .result)
+    (single-parent .ensures) (single-state .ensures) (put-entry .last .0) (put-entry .ensures) (intern-entries .result) (intern-entries .last .0)
+    (intern-entries .last .1 .0) (intern-entries .ensures)
 
 pub intern-with-single-spec : {M : Type 1} → statement M
 intern-with-single-spec =
@@ -42,6 +60,5 @@ intern-with-single-spec =
     put-entry-requires
     add-intern-entries
     intern-entries-requires
-    same-length
-    same-length-2
+    (λ c. search needs) (λ c. search needs)
     returns)

@@ -10,14 +10,23 @@ kind-of-requires c κs = (c .before .pre .sized, plain-few (c .before .args .sto
 
 returns : tie.Need-returns
 unfolding headState
-returns c = rw (plain-zero (c .before .before .before .args .store .now) (c .before .before .before .args .context) (c .before .before .before .pre) (sym (c .before .kind-of .ensures) ∙ c .if1 .taken))
+returns c =
+    let args = c .before .before .before .args in
+    rw (plain-zero (args .store .now) (args .context) (c .before .before .before .pre) (sym (c .before .kind-of .ensures) ∙ c .if1 .taken))
 
 second-of-requires : tie.Need-second-of-requires
-second-of-requires c κs = (c .before .before .before .pre .sized, plain-few (c .before .before .before .args .store .now) (c .before .before .before .args .context) (c .before .before .before .pre))
+second-of-requires c κs =
+    let pre = c .before .before .before .pre in
+    let args = c .before .before .before .args in
+    (pre .sized, plain-few (args .store .now) (args .context) pre)
 
 returns-2 : tie.Need-returns-2
 unfolding headState
-returns-2 c = c .second-of .ensures ∙ rw (plain-one (c .before .before .before .before .args .store .now) (c .before .before .before .before .args .context) (c .before .before .before .before .pre) (λ e. c .before .if1 .left (c .before .before .kind-of .ensures ∙ e)))
+returns-2 c =
+    let args = c .before .before .before .before .args in
+    let pre = c .before .before .before .before .pre in
+    c .second-of .ensures ∙ rw
+    (plain-one (args .store .now) (args .context) pre (λ e. c .before .if1 .left (c .before .before .kind-of .ensures ∙ e)))
 
 pub single-state-spec : {M : Type 1} → statement M
 single-state-spec = tie.close (tie.spec kind-of-requires returns second-of-requires returns-2)

@@ -7,28 +7,36 @@ use Rattle.contexts.proofs.intern.intern_entries.Statement.{statement}
 use Rattle.contexts.proofs.intern.intern_entries.Tie as tie
 
 returns : tie.Need-returns
-returns c = none-pushed (c .before .before .before .args .store .now) (c .before .before .before .args .scratch .now) (c .before .before .before .args .at) (c .before .before .before .args .n) (c .before .before .before .pre) (c .if1 .taken)
+returns c =
+    let args = c .before .before .before .args in
+    none-pushed (args .store .now) (args .scratch .now) (args .at) (args .n) (c .before .before .before .pre) (c .if1 .taken)
 
 stack-state-requires : tie.Need-stack-state-requires
-stack-state-requires c κs = (c .before .before .before .before .pre .stacked .sized, omega (arith, c .before .before .before .before .pre .stacked .room))
-
-same-length : tie.Need-same-length
-same-length c = search needs
+stack-state-requires c κs =
+    let pre = c .before .before .before .before .pre in
+    (pre .stacked .sized, omega (arith, pre .stacked .room))
 
 returns-2 : tie.Need-returns-2
-returns-2 c = dollar-pushed (c .before .before .before .before .before .before .args .store .now) (c .before .before .before .before .before .before .args .scratch .now) (c .before .before .before .before .before .before .args .at) (c .before .before .before .before .before .before .args .n) (c .before .before .before .before .before .before .pre) (c .before .before .before .if1 .left) (sym (c .before .stack-state .ensures) ∙ c .if2 .taken)
+returns-2 c =
+    let args = c .before .before .before .before .before .before .args in
+    let pre = c .before .before .before .before .before .before .pre in
+    dollar-pushed (args .store .now) (args .scratch .now) (args .at) (args .n) pre (c .before .before .before .if1 .left)
+    (sym (c .before .stack-state .ensures) ∙ c .if2 .taken)
 
 intern-proper-requires : tie.Need-intern-proper-requires
-intern-proper-requires c κs = (c .before .before .before .before .before .before .before .before .pre, proper-of (c .before .before .before .before .before .before .before .before .args .store .now) (c .before .before .before .before .before .before .before .before .args .scratch .now) (c .before .before .before .before .before .before .before .before .args .at) (c .before .before .before .before .before .before .before .before .args .n) (c .before .before .before .before .before .before .before .before .pre) (c .before .before .before .before .before .if1 .left) (λ e. c .before .before .if2 .left (c .before .before .before .stack-state .ensures ∙ e)))
-
-same-length-2 : tie.Need-same-length-2
-same-length-2 c = search needs
-
-same-length-3 : tie.Need-same-length-3
-same-length-3 c = search needs
+intern-proper-requires c κs =
+    let pre = c .before .before .before .before .before .before .before .before .pre in
+    let args = c .before .before .before .before .before .before .before .before .args in
+    let if1 = c .before .before .before .before .before .if1 in (
+      pre,
+      proper-of (args .store .now) (args .scratch .now) (args .at) (args .n) pre (if1 .left)
+          (λ e. c .before .before .if2 .left (c .before .before .before .stack-state .ensures ∙ e)),
+    )
 
 returns-3 : tie.Need-returns-3
-returns-3 c = c .before .before .before .before .intern-proper .ensures
+returns-3 c =
+    let intern-proper = c .before .before .before .before .intern-proper in
+    intern-proper .ensures
 
 pub intern-entries-spec : {M : Type 1} → statement M
 intern-entries-spec =
@@ -36,9 +44,8 @@ intern-entries-spec =
     (tie.spec
     returns
     stack-state-requires
-    same-length
+    (λ c. search needs)
     returns-2
     intern-proper-requires
-    same-length-2
-    same-length-3
+    (λ c. search needs) (λ c. search needs)
     returns-3)

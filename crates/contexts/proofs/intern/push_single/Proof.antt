@@ -10,72 +10,91 @@ use Rattle.contexts.proofs.intern.push_single.Statement.{statement}
 use Rattle.contexts.proofs.intern.push_single.Tie as tie
 
 count-of-requires : tie.Need-count-of-requires
-count-of-requires c κs = live-length (c .before .before .before .args .store .now) (c .before .before .before .args .scratch .now) (c .before .before .before .pre .pushed .live)
-
-cast-count : tie.Need-cast-count
-cast-count c = search needs
+count-of-requires c κs =
+    let args = c .before .before .before .args in
+    live-length (c .before .before .before .pre .pushed .live)
 
 used-of-requires : tie.Need-used-of-requires
-used-of-requires c κs = live-length (c .before .before .before .before .before .args .store .now) (c .before .before .before .before .before .args .scratch .now) (c .before .before .before .before .before .pre .pushed .live)
-
-cast-used : tie.Need-cast-used
-cast-used c = search needs
-
-same-length : tie.Need-same-length
-same-length c = search needs
+used-of-requires c κs =
+    let args = c .before .before .before .before .before .args in
+    let pre = c .before .before .before .before .before .pre in
+    live-length (pre .pushed .live)
 
 returns : tie.Need-returns
-returns c = (no-context (c .before .before .before .before .before .before .before .args .store .now) (c .before .before .before .before .before .before .before .args .scratch .now) (c .before .before .before .before .before .before .before .args .at) 1 (c .before .before .before .before .before .before .before .args .hash) (c .before .before .before .before .before .before .before .pre) (rw (c .before .before .before .count-of .ensures) at (c .if1 .taken)), refl, refl)
+returns c =
+    let args = c .before .before .before .before .before .before .before .args in
+    let pre = c .before .before .before .before .before .before .before .pre in (
+      no-context (args .store .now) (args .scratch .now) (args .at) 1 (args .hash) pre
+          (rw (c .before .before .before .count-of .ensures) at (c .if1 .taken)),
+      refl,
+      refl,
+    )
 
 stack-parent-requires : tie.Need-stack-parent-requires
-stack-parent-requires c κs = (c .before .before .before .before .before .before .before .before .pre .pushed .stacked .sized, omega (arith, c .before .before .before .before .before .before .before .before .pre .pushed .stacked .room))
+stack-parent-requires c κs =
+    let pre = c .before .before .before .before .before .before .before .before .pre in
+    (pre .pushed .stacked .sized, omega (arith, pre .pushed .stacked .room))
 
 stack-state-requires : tie.Need-stack-state-requires
-stack-state-requires c κs = (c .before .before .before .before .before .before .before .before .before .before .pre .pushed .stacked .sized, omega (arith, c .before .before .before .before .before .before .before .before .before .before .pre .pushed .stacked .room))
+stack-state-requires c κs =
+    let pre = c .before .before .before .before .before .before .before .before .before .before .pre in
+    (pre .pushed .stacked .sized, omega (arith, pre .pushed .stacked .room))
 
 put-record-requires : tie.Need-put-record-requires
-put-record-requires c κs = (live-length (c .before .before .before .before .before .before .before .before .before .before .before .before .args .store .now) (c .before .before .before .before .before .before .before .before .before .before .before .before .args .scratch .now) (c .before .before .before .before .before .before .before .before .before .before .before .before .pre .pushed .live), c .before .before .before .before .before .if1 .left)
-
-add-put-counts : tie.Need-add-put-counts
-add-put-counts c = search needs
+put-record-requires c κs =
+    let args = c .before .before .before .before .before .before .before .before .before .before .before .before .args in
+    let pre = c .before .before .before .before .before .before .before .before .before .before .before .before .pre in
+    let if1 = c .before .before .before .before .before .if1 in
+    (live-length (pre .pushed .live), if1 .left)
 
 put-counts-requires : tie.Need-put-counts-requires
-put-counts-requires c κs = (ap length (c .before .before .before .put-record .ensures) ∙ length-putRecord _ _ _ _ _ ∙ live-length (c .before .before .before .before .before .before .before .before .before .before .before .before .before .before .before .before .args .store .now) (c .before .before .before .before .before .before .before .before .before .before .before .before .before .before .before .before .args .scratch .now) (c .before .before .before .before .before .before .before .before .before .before .before .before .before .before .before .before .pre .pushed .live), omega arith, omega (arith, c .before .before .before .before .before .before .before .before .before .before .used-of .ensures, live-sound (c .before .before .before .before .before .before .before .before .before .before .before .before .before .before .before .before .args .store .now) (c .before .before .before .before .before .before .before .before .before .before .before .before .before .before .before .before .args .scratch .now) (c .before .before .before .before .before .before .before .before .before .before .before .before .before .before .before .before .pre .pushed .live) .counted .2))
+put-counts-requires c κs =
+    let args = c .before .before .before .before .before .before .before .before .before .before .before .before .before .before .before .before .args in
+    let pre = c .before .before .before .before .before .before .before .before .before .before .before .before .before .before .before .before .pre in
+    let used-of = c .before .before .before .before .before .before .before .before .before .before .used-of in (
+      ap length (c .before .before .before .put-record .ensures) ∙ length-putRecord _ _ _ _ _ ∙ live-length (pre .pushed .live),
+      omega arith,
+      omega
+          (arith, used-of .ensures, live-sound (pre .pushed .live) .counted .2),
+    )
 
 add-to-index-requires : tie.Need-add-to-index-requires
-add-to-index-requires c κs = (c .before .before .before .before .before .before .before .before .before .before .before .before .before .before .before .before .before .before .before .before .pre .pushed .stacked .sized, c .before .before .before .before .before .before .before .before .before .before .before .before .before .if1 .left)
-
-cast-t9 : tie.Need-cast-t9
-cast-t9 c = search needs
-
-same-length-2 : tie.Need-same-length-2
-same-length-2 c = search needs
-
-same-length-3 : tie.Need-same-length-3
-same-length-3 c = search needs
+add-to-index-requires c κs =
+    let pre = c .before .before .before .before .before .before .before .before .before .before .before .before .before .before .before .before .before .before .before .before .pre in
+    let if1 = c .before .before .before .before .before .before .before .before .before .before .before .before .before .if1 in
+    (pre .pushed .stacked .sized, if1 .left)
 
 returns-2 : tie.Need-returns-2
 returns-2 c =
-    read-single (c .before .before .before .before .before .before .before .before .before .before .before .before .before .before .before .before .before .before .before .before .before .before .before .args .store .now) (c .before .before .before .before .before .before .before .before .before .before .before .before .before .before .before .before .before .before .before .before .before .before .before .args .scratch .now) (c .before .before .before .before .before .before .before .before .before .before .before .before .before .before .before .before .before .before .before .before .before .before .before .args .at) 1 (c .before .before .before .before .before .before .before .before .before .before .before .before .before .before .before .before .before .before .before .before .before .before .before .args .hash) (c .before .before .before .before .before .before .before .before .before .before .before .before .before .before .before .before .before .before .before .before .before .before .before .pre) (c .before .before .before .before .before .before .before .before .before .before .before .before .before .before .before .before .before .before .before .count-of .result) (c .before .before .before .before .before .before .before .before .before .before .before .before .before .before .before .before .before .used-of .result) (c .before .before .before .before .before .before .before .before .before .before .before .before .before .before .before .before .before .before .before .count-of .ensures) (c .before .before .before .before .before .before .before .before .before .before .before .before .before .before .before .before .before .used-of .ensures) (c .before .before .before .before .before .before .put-counts .last .0) (c .before .before .add-to-index .last .0) (c .before .before .add-to-index .ensures) refl (c .before .before .before .before .before .before .before .before .before .before .before .before .before .before .before .before .if1 .left)
-    (c .before .before .before .before .before .before .before .before .before .before .before .before .before .before .stack-parent .result) (c .before .before .before .before .before .before .before .before .before .before .before .before .stack-state .result) (c .before .before .before .before .before .before .before .before .before .before .before .before .before .before .stack-parent .ensures) (c .before .before .before .before .before .before .before .before .before .before .before .before .stack-state .ensures) (c .before .before .before .before .before .before .before .before .before .before .put-record .last .0) (c .before .before .before .before .before .before .before .before .before .before .put-record .ensures) (c .before .before .before .before .before .before .put-counts .ensures)
+    let args = c .before .before .before .before .before .before .before .before .before .before .before .before .before .before .before .before .before .before .before .before .before .before .before .args in
+    let pre = c .before .before .before .before .before .before .before .before .before .before .before .before .before .before .before .before .before .before .before .before .before .before .before .pre in
+    let count-of = c .before .before .before .before .before .before .before .before .before .before .before .before .before .before .before .before .before .before .before .count-of in
+    let used-of = c .before .before .before .before .before .before .before .before .before .before .before .before .before .before .before .before .before .used-of in
+    let if1 = c .before .before .before .before .before .before .before .before .before .before .before .before .before .before .before .before .if1 in
+    let stack-parent = c .before .before .before .before .before .before .before .before .before .before .before .before .before .before .stack-parent in
+    let stack-state = c .before .before .before .before .before .before .before .before .before .before .before .before .stack-state in
+    let put-record = c .before .before .before .before .before .before .before .before .before .before .put-record in
+    let put-counts = c .before .before .before .before .before .before .put-counts in
+    let add-to-index = c .before .before .add-to-index in
+    read-single (args .store .now) (args .scratch .now) (args .at) 1 (args .hash) pre (count-of .result) (used-of .result) (count-of .ensures)
+    (used-of .ensures) (put-counts .last .0) (add-to-index .last .0) (add-to-index .ensures) refl (if1 .left)
+    (stack-parent .result) (stack-state .result) (stack-parent .ensures) (stack-state .ensures) (put-record .last .0) (put-record .ensures)
+    (put-counts .ensures)
 
 pub push-single-spec : {M : Type 1} → statement M
 push-single-spec =
     tie.close
     (tie.spec
     count-of-requires
-    cast-count
+    (λ c. search needs)
     used-of-requires
-    cast-used
-    same-length
+    (λ c. search needs) (λ c. search needs)
     returns
     stack-parent-requires
     stack-state-requires
     put-record-requires
-    add-put-counts
+    (λ c. search needs)
     put-counts-requires
     add-to-index-requires
-    cast-t9
-    same-length-2
-    same-length-3
+    (λ c. search needs) (λ c. search needs) (λ c. search needs)
     returns-2)

@@ -7,69 +7,60 @@ use Rattle.contexts.specs.MergeCall.{call-refused, call-ready, call-unkn
 use Rattle.contexts.proofs.merges.merge.Statement.{statement}
 use Rattle.contexts.proofs.merges.merge.Tie as tie
 
-admit-requires : tie.Need-admit-requires
-admit-requires c κs = search needs
-
-enum-known-admitted : tie.Need-enum-known-admitted
-enum-known-admitted c = search needs
-
-same-length : tie.Need-same-length
-same-length c = search needs
-
-same-length-2 : tie.Need-same-length-2
-same-length-2 c = search needs
-
 returns : tie.Need-returns
 returns c =
-    let e : c .before .before .before .before .before .admit .result ≡ Refused (c .before .admitted .given .0 .0) = cc in call-refused (c .before .before .before .before .before .before .before .before .before .before .args .store .now) (c .before .before .before .before .before .before .before .before .before .before .args .scratch .now) (c .before .before .before .before .before .admit .last .1 .0) (c .before .before .before .before .before .before .before .before .before .before .args .left .0) (c .before .before .before .before .before .before .before .before .before .before .args .right .0) (c .before .before .before .before .before .before .before .before .before .before .args .wildcard) (c .before .before .before .before .before .admit .result) (c .before .before .before .before .before .admit .ensures) (c .before .admitted .given .0 .0) e
-
-enum-told : tie.Need-enum-told
-enum-told c = search needs
+    let args = c .before .before .before .before .before .before .before .before .before .before .args in
+    let at-admit = c .before .before .before .before .before .admit in
+    let e : at-admit .result ≡ Refused (c .before .admitted .given .0 .0) = cc in call-refused (args .store .now) (args .scratch .now) (at-admit .last .1 .0) (args .left .0) (args .right .0) (args .wildcard) (at-admit .result) (at-admit .ensures) (c .before .admitted .given .0 .0) e
 
 count-of-requires : tie.Need-count-of-requires
-count-of-requires c κs = live-length (c .before .before .before .before .before .before .before .before .before .before .args .store .now) (c .before .before .before .before .before .admit .last .1 .0) (call-ready (c .before .before .before .before .before .before .before .before .before .before .args .store .now) (c .before .before .before .before .before .before .before .before .before .before .args .scratch .now) (c .before .before .before .before .before .admit .last .1 .0) (c .before .before .before .before .before .before .before .before .before .before .args .left .0) (c .before .before .before .before .before .before .before .before .before .before .args .right .0) (c .before .before .before .before .before .before .before .before .before .before .args .wildcard) (c .before .before .before .before .before .admit .result) (c .before .before .before .before .before .admit .ensures) (c .before .enum-told .given .1) .0)
-
-clear-requires : tie.Need-clear-requires
-clear-requires c κs = search needs
-
-same-length-3 : tie.Need-same-length-3
-same-length-3 c = search needs
-
-same-length-4 : tie.Need-same-length-4
-same-length-4 c = search needs
+count-of-requires c κs =
+    let args = c .before .before .before .before .before .before .before .before .before .before .args in
+    let at-admit = c .before .before .before .before .before .admit in
+    live-length
+    (call-ready (args .store .now) (args .scratch .now) (at-admit .last .1 .0) (args .left .0) (args .right .0) (args .wildcard)
+    (at-admit .result) (at-admit .ensures) (c .before .enum-told .given .1) .0)
 
 returns-2 : tie.Need-returns-2
-returns-2 c = call-unknown (c .before .before .before .before .before .before .before .before .before .before .before .before .before .before .before .before .before .args .store .now) (c .before .before .before .before .before .before .before .before .before .before .before .before .before .before .before .before .before .args .scratch .now) (c .before .before .before .before .before .before .before .before .before .before .before .before .admit .last .1 .0) (c .before .before .before .before .before .before .before .before .before .before .before .before .before .before .before .before .before .args .left .0) (c .before .before .before .before .before .before .before .before .before .before .before .before .before .before .before .before .before .args .right .0) (c .before .before .before .before .before .before .before .before .before .before .before .before .before .before .before .before .before .args .wildcard) (c .before .before .before .before .before .before .before .before .before .before .before .before .admit .result) (c .before .before .before .before .before .before .before .before .before .before .before .before .admit .ensures) (c .before .before .before .before .before .before .before .before .enum-told .given .1) (rw (c .before .before .before .before .before .before .count-of .ensures) at (c .before .before .before .before .if1 .taken)) (c .before .before .clear .last .0) (c .before .before .clear .ensures)
+returns-2 c =
+    let args = c .before .before .before .before .before .before .before .before .before .before .before .before .before .before .before .before .before .args in
+    let at-admit = c .before .before .before .before .before .before .before .before .before .before .before .before .admit in
+    let enum-told = c .before .before .before .before .before .before .before .before .enum-told in
+    let count-of = c .before .before .before .before .before .before .count-of in
+    let if1 = c .before .before .before .before .if1 in
+    let clear = c .before .before .clear in
+    call-unknown (args .store .now) (args .scratch .now) (at-admit .last .1 .0) (args .left .0) (args .right .0) (args .wildcard)
+    (at-admit .result) (at-admit .ensures) (enum-told .given .1) (rw (count-of .ensures) at (if1 .taken)) (clear .last .0) (clear .ensures)
 
 merge-known-requires : tie.Need-merge-known-requires
 merge-known-requires c κs =
-    let o = call-ready (c .before .before .before .before .before .before .before .before .before .before .before .before .before .before .before .args .store .now) (c .before .before .before .before .before .before .before .before .before .before .before .before .before .before .before .args .scratch .now) (c .before .before .before .before .before .before .before .before .before .before .admit .last .1 .0) (c .before .before .before .before .before .before .before .before .before .before .before .before .before .before .before .args .left .0) (c .before .before .before .before .before .before .before .before .before .before .before .before .before .before .before .args .right .0) (c .before .before .before .before .before .before .before .before .before .before .before .before .before .before .before .args .wildcard) (c .before .before .before .before .before .before .before .before .before .before .admit .result) (c .before .before .before .before .before .before .before .before .before .before .admit .ensures) (c .before .before .before .before .before .before .enum-told .given .1) in (o .0, o .1, rw (c .before .before .before .before .count-of .ensures) at (c .before .before .if1 .left))
-
-same-length-5 : tie.Need-same-length-5
-same-length-5 c = search needs
-
-same-length-6 : tie.Need-same-length-6
-same-length-6 c = search needs
+    let args = c .before .before .before .before .before .before .before .before .before .before .before .before .before .before .before .args in
+    let at-admit = c .before .before .before .before .before .before .before .before .before .before .admit in
+    let enum-told = c .before .before .before .before .before .before .enum-told in
+    let count-of = c .before .before .before .before .count-of in
+    let o = call-ready (args .store .now) (args .scratch .now) (at-admit .last .1 .0) (args .left .0) (args .right .0) (args .wildcard) (at-admit .result) (at-admit .ensures) (enum-told .given .1) in (o .0, o .1, rw (count-of .ensures) at (c .before .before .if1 .left))
 
 returns-3 : tie.Need-returns-3
-returns-3 c = call-merged (c .before .before .before .before .before .before .before .before .before .before .before .before .before .before .before .before .before .before .before .before .args .store .now) (c .before .before .before .before .before .before .before .before .before .before .before .before .before .before .before .before .before .before .before .before .args .scratch .now) (c .before .before .before .before .before .before .before .before .before .before .before .before .before .before .before .admit .last .1 .0) (c .before .before .before .before .before .before .before .before .before .before .before .before .before .before .before .before .before .before .before .before .args .left .0) (c .before .before .before .before .before .before .before .before .before .before .before .before .before .before .before .before .before .before .before .before .args .right .0) (c .before .before .before .before .before .before .before .before .before .before .before .before .before .before .before .before .before .before .before .before .args .wildcard) (c .before .before .before .before .before .before .before .before .before .before .before .before .before .before .before .admit .result) (c .before .before .before .before .before .before .before .before .before .before .before .before .before .before .before .admit .ensures) (c .before .before .before .before .before .before .before .before .before .before .before .enum-told .given .1) (rw (c .before .before .before .before .before .before .before .before .before .count-of .ensures) at (c .before .before .before .before .before .before .before .if1 .left)) _ (c .before .before .before .before .merge-known .ensures)
+returns-3 c =
+    let args = c .before .before .before .before .before .before .before .before .before .before .before .before .before .before .before .before .before .before .before .before .args in
+    let at-admit = c .before .before .before .before .before .before .before .before .before .before .before .before .before .before .before .admit in
+    let enum-told = c .before .before .before .before .before .before .before .before .before .before .before .enum-told in
+    let count-of = c .before .before .before .before .before .before .before .before .before .count-of in
+    let if1 = c .before .before .before .before .before .before .before .if1 in
+    let merge-known = c .before .before .before .before .merge-known in
+    call-merged (args .store .now) (args .scratch .now) (at-admit .last .1 .0) (args .left .0) (args .right .0) (args .wildcard)
+    (at-admit .result) (at-admit .ensures) (enum-told .given .1) (rw (count-of .ensures) at (if1 .left)) _ (merge-known .ensures)
 
 pub merge-spec : {M : Type 1} → statement M
 merge-spec =
     tie.close
     (tie.spec
-    admit-requires
-    enum-known-admitted
-    same-length
-    same-length-2
+    (λ c κs. search needs) (λ c. search needs) (λ c. search needs) (λ c. search needs)
     returns
-    enum-told
+    (λ c. search needs)
     count-of-requires
-    clear-requires
-    same-length-3
-    same-length-4
+    (λ c κs. search needs) (λ c. search needs) (λ c. search needs)
     returns-2
     merge-known-requires
-    same-length-5
-    same-length-6
+    (λ c. search needs) (λ c. search needs)
     returns-3)

@@ -10,82 +10,88 @@ use Rattle.contexts.proofs.merges.merge_known.Statement.{statement}
 use Rattle.contexts.proofs.merges.merge_known.Tie as tie
 
 count-of-requires : tie.Need-count-of-requires
-count-of-requires c κs = live-length (c .before .before .before .args .store .now) (c .before .before .before .args .scratch .now) (c .before .before .before .pre .0)
-
-cast-count : tie.Need-cast-count
-cast-count c = search needs
+count-of-requires c κs =
+    let args = c .before .before .before .args in
+    live-length (c .before .before .before .pre .0)
 
 used-of-requires : tie.Need-used-of-requires
-used-of-requires c κs = live-length (c .before .before .before .before .before .args .store .now) (c .before .before .before .before .before .args .scratch .now) (c .before .before .before .before .before .pre .0)
-
-cast-used : tie.Need-cast-used
-cast-used c = search needs
+used-of-requires c κs =
+    let args = c .before .before .before .before .before .args in
+    let pre = c .before .before .before .before .before .pre in
+    live-length (pre .0)
 
 clear-cache-requires : tie.Need-clear-cache-requires
-clear-cache-requires c κs = c .before .before .before .before .before .before .before .pre .0 .index .sized
+clear-cache-requires c κs =
+    let pre = c .before .before .before .before .before .before .before .pre in
+    pre .0 .index .sized
 
 merge-requires : tie.Need-merge-requires
-merge-requires c κs = begin (c .before .before .before .before .before .before .before .before .before .before .before .before .args .wildcard) (c .before .before .before .before .before .before .before .before .before .before .before .before .args .store .now) (c .before .before .before .before .before .before .before .before .before .before .before .before .args .scratch .now) (c .before .before .before .before .before .before .before .before .before .before .before .before .args .left .0) (c .before .before .before .before .before .before .before .before .before .before .before .before .args .right .0) (c .before .before .before .before .before .before .before .before .before .before .before .before .pre .0) (c .before .before .before .before .before .before .before .before .before .before .before .before .pre .1) (c .before .before .before .before .before .before .before .before .before .before .before .before .pre .2) (c .before .before .before .before .clear-cache .last .0) (c .before .before .before .before .clear-cache .ensures)
-
-enum-known-made : tie.Need-enum-known-made
-enum-known-made c = search needs
-
-enum-told : tie.Need-enum-told
-enum-told c = search needs
+merge-requires c κs =
+    let args = c .before .before .before .before .before .before .before .before .before .before .before .before .args in
+    let pre = c .before .before .before .before .before .before .before .before .before .before .before .before .pre in
+    let clear-cache = c .before .before .before .before .clear-cache in
+    begin (args .wildcard) (args .store .now) (args .scratch .now) (args .left .0) (args .right .0) (pre .0) (pre .1) (pre .2)
+    (clear-cache .last .0) (clear-cache .ensures)
 
 cut-back-requires : tie.Need-cut-back-requires
 cut-back-requires c κs =
-    let e : c .before .before .before .before .before .before .before .merge .result ≡ NoRoom = c .before .enum-told .given .1 in
-    let o = rw e at (c .before .before .before .before .before .before .before .merge .ensures) in
-    (stuck-length (c .before .before .before .before .before .before .before .before .before .before .before .before .before .before .before .before .before .before .before .before .args .store .now) (c .before .before .before .before .before .before .before .merge .last .0) (c .before .before .before .before .before .before .before .merge .last .1 .0) (o .1), omega (arith, c .before .before .before .before .before .before .before .before .before .before .before .before .before .before .before .before .count-of .ensures, live-sound (c .before .before .before .before .before .before .before .before .before .before .before .before .before .before .before .before .before .before .before .before .args .store .now) (c .before .before .before .before .before .before .before .before .before .before .before .before .before .before .before .before .before .before .before .before .args .scratch .now) (c .before .before .before .before .before .before .before .before .before .before .before .before .before .before .before .before .before .before .before .before .pre .0) .counted .1), omega (arith, c .before .before .before .before .before .before .before .before .before .before .before .before .before .before .used-of .ensures, live-sound (c .before .before .before .before .before .before .before .before .before .before .before .before .before .before .before .before .before .before .before .before .args .store .now) (c .before .before .before .before .before .before .before .before .before .before .before .before .before .before .before .before .before .before .before .before .args .scratch .now) (c .before .before .before .before .before .before .before .before .before .before .before .before .before .before .before .before .before .before .before .before .pre .0) .counted .2))
-
-clear-requires : tie.Need-clear-requires
-clear-requires c κs = search needs
-
-same-length : tie.Need-same-length
-same-length c = search needs
-
-same-length-2 : tie.Need-same-length-2
-same-length-2 c = search needs
+    let args = c .before .before .before .before .before .before .before .before .before .before .before .before .before .before .before .before .before .before .before .before .args in
+    let pre = c .before .before .before .before .before .before .before .before .before .before .before .before .before .before .before .before .before .before .before .before .pre in
+    let count-of = c .before .before .before .before .before .before .before .before .before .before .before .before .before .before .before .before .count-of in
+    let used-of = c .before .before .before .before .before .before .before .before .before .before .before .before .before .before .used-of in
+    let merge = c .before .before .before .before .before .before .before .merge in
+    let e : merge .result ≡ NoRoom = c .before .enum-told .given .1 in
+    let o = rw e at (merge .ensures) in (
+      stuck-length (args .store .now) (merge .last .0) (merge .last .1 .0) (o .1),
+      omega
+          (arith, count-of .ensures, live-sound (pre .0) .counted .1),
+      omega
+          (arith, used-of .ensures, live-sound (pre .0) .counted .2),
+    )
 
 returns : tie.Need-returns
 returns c =
-    let e : c .before .before .before .before .before .before .before .before .before .before .before .before .before .before .merge .result ≡ NoRoom = c .before .before .before .before .before .before .before .before .enum-told .given .1 in
-    let o = rw e at (c .before .before .before .before .before .before .before .before .before .before .before .before .before .before .merge .ensures) in
-    merge-refused (c .before .before .before .before .before .before .before .before .before .before .before .before .before .before .before .before .before .before .before .before .before .before .before .before .before .before .before .args .wildcard) (c .before .before .before .before .before .before .before .before .before .before .before .before .before .before .before .before .before .before .before .before .before .before .before .before .before .before .before .args .store .now) (c .before .before .before .before .before .before .before .before .before .before .before .before .before .before .before .before .before .before .before .before .before .before .before .before .before .before .before .args .scratch .now) (c .before .before .before .before .before .before .before .before .before .before .before .before .before .before .before .before .before .before .before .before .before .before .before .before .before .before .before .args .left .0) (c .before .before .before .before .before .before .before .before .before .before .before .before .before .before .before .before .before .before .before .before .before .before .before .before .before .before .before .args .right .0) (c .before .before .before .before .before .before .before .before .before .before .before .before .before .before .before .before .before .before .before .before .before .before .before .before .before .before .before .pre .0) (c .before .before .before .before .before .before .before .before .before .before .before .before .before .before .before .before .before .before .before .before .before .before .before .before .before .before .before .pre .1) (c .before .before .before .before .before .before .before .before .before .before .before .before .before .before .before .before .before .before .before .before .before .before .before .before .before .before .before .pre .2) (c .before .before .before .before .before .before .before .before .before .before .before .before .before .before .before .before .before .before .before .clear-cache .last .0) (c .before .before .before .before .before .before .before .before .before .before .before .before .before .before .before .before .before .before .before .clear-cache .ensures) (c .before .before .before .before .before .before .before .before .before .before .before .before .before .before .merge .last .0) (c .before .before .before .before .before .before .before .before .before .before .before .before .before .before .merge .last .1 .0) (o .0) (o .1) (c .before .before .before .before .before .before .before .before .before .before .before .before .before .before .before .before .before .before .before .before .before .before .before .count-of .result) (c .before .before .before .before .before .before .before .before .before .before .before .before .before .before .before .before .before .before .before .before .before .used-of .result) (c .before .before .before .before .before .before .before .before .before .before .before .before .before .before .before .before .before .before .before .before .before .before .before .count-of .ensures) (c .before .before .before .before .before .before .before .before .before .before .before .before .before .before .before .before .before .before .before .before .before .used-of .ensures) (c .before .before .before .before .before .before .cut-back .last .0) (c .before .before .clear .last .0) (c .before .before .before .before .before .before .cut-back .ensures) (c .before .before .clear .ensures)
-
-clear-requires-2 : tie.Need-clear-requires-2
-clear-requires-2 c κs = search needs
-
-same-length-3 : tie.Need-same-length-3
-same-length-3 c = search needs
-
-same-length-4 : tie.Need-same-length-4
-same-length-4 c = search needs
+    let args = c .before .before .before .before .before .before .before .before .before .before .before .before .before .before .before .before .before .before .before .before .before .before .before .before .before .before .before .args in
+    let pre = c .before .before .before .before .before .before .before .before .before .before .before .before .before .before .before .before .before .before .before .before .before .before .before .before .before .before .before .pre in
+    let count-of = c .before .before .before .before .before .before .before .before .before .before .before .before .before .before .before .before .before .before .before .before .before .before .before .count-of in
+    let used-of = c .before .before .before .before .before .before .before .before .before .before .before .before .before .before .before .before .before .before .before .before .before .used-of in
+    let clear-cache = c .before .before .before .before .before .before .before .before .before .before .before .before .before .before .before .before .before .before .before .clear-cache in
+    let merge = c .before .before .before .before .before .before .before .before .before .before .before .before .before .before .merge in
+    let enum-told = c .before .before .before .before .before .before .before .before .enum-told in
+    let cut-back = c .before .before .before .before .before .before .cut-back in
+    let clear = c .before .before .clear in
+    let e : merge .result ≡ NoRoom = enum-told .given .1 in
+    let o = rw e at (merge .ensures) in
+    merge-refused (args .wildcard) (args .store .now) (args .scratch .now) (args .left .0) (args .right .0) (pre .0) (pre .1) (pre .2)
+    (clear-cache .last .0) (clear-cache .ensures) (merge .last .0) (merge .last .1 .0) (o .0) (o .1) (count-of .result) (used-of .result)
+    (count-of .ensures) (used-of .ensures) (cut-back .last .0) (clear .last .0) (cut-back .ensures) (clear .ensures)
 
 returns-2 : tie.Need-returns-2
 returns-2 c =
-    let e : c .before .before .before .before .before .before .before .before .before .before .before .merge .result ≡ At (c .before .before .before .before .before .made .given .0 .0) = cc in
-    merge-made (c .before .before .before .before .before .before .before .before .before .before .before .before .before .before .before .before .before .before .before .before .before .before .before .before .args .wildcard) (c .before .before .before .before .before .before .before .before .before .before .before .before .before .before .before .before .before .before .before .before .before .before .before .before .args .store .now) (c .before .before .before .before .before .before .before .before .before .before .before .before .before .before .before .before .before .before .before .before .before .before .before .before .args .scratch .now) (c .before .before .before .before .before .before .before .before .before .before .before .before .before .before .before .before .before .before .before .before .before .before .before .before .args .left .0) (c .before .before .before .before .before .before .before .before .before .before .before .before .before .before .before .before .before .before .before .before .before .before .before .before .args .right .0) (c .before .before .before .before .before .before .before .before .before .before .before .before .before .before .before .before .before .before .before .before .before .before .before .before .pre .0) (c .before .before .before .before .before .before .before .before .before .before .before .before .before .before .before .before .before .before .before .before .before .before .before .before .pre .1) (c .before .before .before .before .before .before .before .before .before .before .before .before .before .before .before .before .before .before .before .before .before .before .before .before .pre .2) (c .before .before .before .before .before .before .before .before .before .before .before .before .before .before .before .before .clear-cache .last .0) (c .before .before .before .before .before .before .before .before .before .before .before .before .before .before .before .before .clear-cache .ensures) (c .before .before .before .before .before .made .given .0 .0 .0) (c .before .before .before .before .before .before .before .before .before .before .before .merge .last .0) (c .before .before .before .before .before .before .before .before .before .before .before .merge .last .1 .0) (rw e at (c .before .before .before .before .before .before .before .before .before .before .before .merge .ensures)) (c .before .before .clear2 .last .0) (c .before .before .clear2 .ensures)
+    let args = c .before .before .before .before .before .before .before .before .before .before .before .before .before .before .before .before .before .before .before .before .before .before .before .before .args in
+    let pre = c .before .before .before .before .before .before .before .before .before .before .before .before .before .before .before .before .before .before .before .before .before .before .before .before .pre in
+    let clear-cache = c .before .before .before .before .before .before .before .before .before .before .before .before .before .before .before .before .clear-cache in
+    let merge = c .before .before .before .before .before .before .before .before .before .before .before .merge in
+    let made = c .before .before .before .before .before .made in
+    let clear2 = c .before .before .clear2 in
+    let e : merge .result ≡ At (made .given .0 .0) = cc in
+    merge-made (args .wildcard) (args .store .now) (args .scratch .now) (args .left .0) (args .right .0) (pre .0) (pre .1) (pre .2)
+    (clear-cache .last .0) (clear-cache .ensures) (made .given .0 .0 .0) (merge .last .0) (merge .last .1 .0) (rw e at (merge .ensures))
+    (clear2 .last .0) (clear2 .ensures)
 
 pub merge-known-spec : {M : Type 1} → statement M
 merge-known-spec =
     tie.close
     (tie.spec
     count-of-requires
-    cast-count
+    (λ c. search needs)
     used-of-requires
-    cast-used
+    (λ c. search needs)
     clear-cache-requires
     merge-requires
-    enum-known-made
-    enum-told
+    (λ c. search needs) (λ c. search needs)
     cut-back-requires
-    clear-requires
-    same-length
-    same-length-2
+    (λ c κs. search needs) (λ c. search needs) (λ c. search needs)
     returns
-    clear-requires-2
-    same-length-3
-    same-length-4
+    (λ c κs. search needs) (λ c. search needs) (λ c. search needs)
     returns-2)

@@ -5,12 +5,6 @@ use Rattle.contexts.specs.Replies.{madeReply}
 use Rattle.contexts.proofs.single.answer.Statement.{statement}
 use Rattle.contexts.proofs.single.answer.Tie as tie
 
-enum-known-made : tie.Need-enum-known-made
-enum-known-made c = search needs
-
-enum-told : tie.Need-enum-told
-enum-told c = search needs
-
 returns : tie.Need-returns
 returns c = ap madeReply (sym (c .before .made .given .1))
 
@@ -18,4 +12,9 @@ returns-2 : tie.Need-returns-2
 returns-2 c = ap madeReply (sym (c .enum-told .given .1))
 
 pub answer-spec : {M : Type 1} → statement M
-answer-spec = tie.close (tie.spec enum-known-made enum-told returns returns-2)
+answer-spec =
+    tie.close
+    (tie.spec
+    (λ c. search needs) (λ c. search needs)
+    returns
+    returns-2)

@@ -12,25 +12,26 @@ put-entry-requires : tie.Need-put-entry-requires
 put-entry-requires c κs = (c .before .before .before .pre .0 .index .sized, omega arith)
 
 intern-entries-requires : tie.Need-intern-entries-requires
-intern-entries-requires c κs = single-pushed (c .before .before .before .before .before .before .before .before .args .store .now) (c .before .before .before .before .before .before .before .before .args .scratch .now) (c .before .before .before .before .before .before .before .before .pre .0) (c .before .before .before .before .before .before .before .before .args .parent .0) (c .before .before .before .before .before .before .before .before .args .state .0) (c .before .before .before .before .before .before .before .before .pre .1) (c .before .before .before .before .before .before .before .before .pre .2) (c .before .before .before .before .put-entry .last .0) (c .before .before .before .before .put-entry .ensures)
-
-clear-requires : tie.Need-clear-requires
-clear-requires c κs = search needs
-
-answer-requires : tie.Need-answer-requires
-answer-requires c κs = search needs
-
-same-length : tie.Need-same-length
-same-length c = search needs
-
-same-length-2 : tie.Need-same-length-2
-same-length-2 c = search needs
+intern-entries-requires c κs =
+    let args = c .before .before .before .before .before .before .before .before .args in
+    let pre = c .before .before .before .before .before .before .before .before .pre in
+    let put-entry = c .before .before .before .before .put-entry in
+    single-pushed (args .store .now) (args .scratch .now) (pre .0) (args .parent .0) (args .state .0) (pre .1) (pre .2) (put-entry .last .0)
+    (put-entry .ensures)
 
 returns : tie.Need-returns
 unfolding placedSingle
 returns c =
-    let zero = c .before .before .before .clear .ensures ∙ cleared (c .before .before .before .before .before .before .before .before .before .intern-entries .last .1 .0) (interned-length (c .before .before .before .before .before .before .before .before .before .before .before .before .before .before .before .before .before .before .args .store .now) (c .before .before .before .before .before .before .before .before .before .before .before .before .before .before .put-entry .last .0) 0 1 (c .before .before .before .before .before .before .before .before .before .intern-entries .result) (c .before .before .before .before .before .before .before .before .before .intern-entries .last .0) (c .before .before .before .before .before .before .before .before .before .intern-entries .last .1 .0) (single-pushed (c .before .before .before .before .before .before .before .before .before .before .before .before .before .before .before .before .before .before .args .store .now) (c .before .before .before .before .before .before .before .before .before .before .before .before .before .before .before .before .before .before .args .scratch .now) (c .before .before .before .before .before .before .before .before .before .before .before .before .before .before .before .before .before .before .pre .0) (c .before .before .before .before .before .before .before .before .before .before .before .before .before .before .before .before .before .before .args .parent .0) (c .before .before .before .before .before .before .before .before .before .before .before .before .before .before .before .before .before .before .args .state .0) (c .before .before .before .before .before .before .before .before .before .before .before .before .before .before .before .before .before .before .pre .1) (c .before .before .before .before .before .before .before .before .before .before .before .before .before .before .before .before .before .before .pre .2) (c .before .before .before .before .before .before .before .before .before .before .before .before .before .before .put-entry .last .0) (c .before .before .before .before .before .before .before .before .before .before .before .before .before .before .put-entry .ensures) .stacked .sized) (c .before .before .before .before .before .before .before .before .before .intern-entries .ensures)) in
-    (rw (c .answer .ensures, zero)) ∙ interned-left (c .before .before .before .before .before .before .before .before .before .before .before .before .before .before .before .before .before .before .args .store .now) (c .before .before .before .before .before .before .before .before .before .before .before .before .before .before .put-entry .last .0) 0 1 _ (c .before .before .before .before .before .before .before .before .before .intern-entries .result) (c .before .before .before .before .before .before .before .before .before .intern-entries .last .0) (c .before .before .before .before .before .before .before .before .before .intern-entries .last .1 .0) (single-place (c .before .before .before .before .before .before .before .before .before .before .before .before .before .before .before .before .before .before .args .store .now) (c .before .before .before .before .before .before .before .before .before .before .before .before .before .before .before .before .before .before .args .scratch .now) (c .before .before .before .before .before .before .before .before .before .before .before .before .before .before .before .before .before .before .pre .0) (c .before .before .before .before .before .before .before .before .before .before .before .before .before .before .before .before .before .before .args .parent .0) (c .before .before .before .before .before .before .before .before .before .before .before .before .before .before .before .before .before .before .args .state .0) (c .before .before .before .before .before .before .before .before .before .before .before .before .before .before .before .before .before .before .pre .1) (c .before .before .before .before .before .before .before .before .before .before .before .before .before .before .before .before .before .before .pre .2) (c .before .before .before .before .before .before .before .before .before .before .before .before .before .before .put-entry .last .0) (c .before .before .before .before .before .before .before .before .before .before .before .before .before .before .put-entry .ensures)) (c .before .before .before .before .before .before .before .before .before .intern-entries .ensures)
+    let args = c .before .before .before .before .before .before .before .before .before .before .before .before .before .before .before .before .before .before .args in
+    let pre = c .before .before .before .before .before .before .before .before .before .before .before .before .before .before .before .before .before .before .pre in
+    let put-entry = c .before .before .before .before .before .before .before .before .before .before .before .before .before .before .put-entry in
+    let intern-entries = c .before .before .before .before .before .before .before .before .before .intern-entries in
+    let zero = c .before .before .before .clear .ensures ∙ cleared (intern-entries .last .1 .0) (interned-length (args .store .now) (put-entry .last .0) 0 1 (intern-entries .result) (intern-entries .last .0) (intern-entries .last .1 .0) (single-pushed (args .store .now) (args .scratch .now) (pre .0) (args .parent .0) (args .state .0) (pre .1) (pre .2) (put-entry .last .0) (put-entry .ensures) .stacked .sized) (intern-entries .ensures)) in
+    (rw (c .answer .ensures, zero)) ∙ interned-left (args .store .now) (put-entry .last .0) 0 1 _ (intern-entries .result)
+    (intern-entries .last .0) (intern-entries .last .1 .0)
+    (single-place (args .store .now) (args .scratch .now) (pre .0) (args .parent .0) (args .state .0) (pre .1) (pre .2)
+    (put-entry .last .0) (put-entry .ensures))
+    (intern-entries .ensures)
 
 pub place-single-spec : {M : Type 1} → statement M
 place-single-spec =
@@ -38,8 +39,5 @@ place-single-spec =
     (tie.spec
     put-entry-requires
     intern-entries-requires
-    clear-requires
-    answer-requires
-    same-length
-    same-length-2
+    (λ c κs. search needs) (λ c κs. search needs) (λ c. search needs) (λ c. search needs)
     returns)

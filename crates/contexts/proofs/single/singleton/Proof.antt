@@ -9,104 +9,70 @@ use Rattle.contexts.specs.Outcomes.{placed, singleton-refused, singleton
 use Rattle.contexts.proofs.single.singleton.Statement.{statement}
 use Rattle.contexts.proofs.single.singleton.Tie as tie
 
-admit-requires : tie.Need-admit-requires
-admit-requires c κs = search needs
-
-enum-known-admitted : tie.Need-enum-known-admitted
-enum-known-admitted c = search needs
-
-same-length : tie.Need-same-length
-same-length c = search needs
-
-same-length-2 : tie.Need-same-length-2
-same-length-2 c = search needs
-
 returns : tie.Need-returns
 returns c =
-    let e : c .before .before .before .before .before .admit .result ≡ Refused (c .before .admitted .given .0 .0) = cc in singleton-refused (c .before .before .before .before .before .before .before .before .before .before .args .store .now) (c .before .before .before .before .before .before .before .before .before .before .args .scratch .now) (c .before .before .before .before .before .admit .last .1 .0) (c .before .before .before .before .before .before .before .before .before .before .args .parent .0) (c .before .before .before .before .before .before .before .before .before .before .args .state .0) (c .before .before .before .before .before .admit .result) (c .before .before .before .before .before .admit .ensures) (c .before .admitted .given .0 .0) e
-
-enum-told : tie.Need-enum-told
-enum-told c = search needs
-
-compact-requires : tie.Need-compact-requires
-compact-requires c κs = search needs
-
-enum-told-2 : tie.Need-enum-told-2
-enum-told-2 c = search needs
-
-clear-requires : tie.Need-clear-requires
-clear-requires c κs = search needs
-
-enum-told-3 : tie.Need-enum-told-3
-enum-told-3 c = search needs
-
-clear-requires-2 : tie.Need-clear-requires-2
-clear-requires-2 c κs = search needs
-
-enum-known-compact : tie.Need-enum-known-compact
-enum-known-compact c = search needs
+    let args = c .before .before .before .before .before .before .before .before .before .before .args in
+    let at-admit = c .before .before .before .before .before .admit in
+    let e : at-admit .result ≡ Refused (c .before .admitted .given .0 .0) = cc in singleton-refused (args .store .now) (args .scratch .now) (at-admit .last .1 .0) (args .parent .0) (args .state .0) (at-admit .result) (at-admit .ensures) (c .before .admitted .given .0 .0) e
 
 place-single-requires : tie.Need-place-single-requires
 place-single-requires c κs =
-    let e : c .before .before .before .before .before .compact .result ≡ State (c .before .before .before .compact2 .given .0 .0) = cc in
-    let m = sym (c .before .before .before .before .before .compact .ensures) ∙ e in
-    let ready = singleton-ready (c .before .before .before .before .before .before .before .before .before .before .before .before .before .before .before .args .store .now) (c .before .before .before .before .before .before .before .before .before .before .before .before .before .before .before .args .scratch .now) (c .before .before .before .before .before .before .before .before .before .before .admit .last .1 .0) (c .before .before .before .before .before .before .before .before .before .before .before .before .before .before .before .args .parent .0) (c .before .before .before .before .before .before .before .before .before .before .before .before .before .before .before .args .state .0) (c .before .before .before .before .before .before .before .before .before .before .admit .result) (c .before .before .before .before .before .before .before .before .before .before .admit .ensures) (c .before .before .before .before .before .before .enum-told .given .1) in
-    let o = placed (c .before .before .before .before .before .before .before .before .before .before .before .before .before .before .before .args .store .now) (c .before .before .before .before .before .before .before .before .before .before .before .before .before .before .before .args .state .0) (placedSingle (c .before .before .before .before .before .before .before .before .before .before .before .before .before .before .before .args .store .now) (c .before .before .before .before .before .before .before .before .before .before .before .before .before .before .before .args .parent .0) (c .before .before .before .before .before .before .before .before .before .before .before .before .before .before .before .args .state .0)) (c .before .before .before .compact2 .given .0 .0) m in
+    let args = c .before .before .before .before .before .before .before .before .before .before .before .before .before .before .before .args in
+    let at-admit = c .before .before .before .before .before .before .before .before .before .before .admit in
+    let enum-told = c .before .before .before .before .before .before .enum-told in
+    let compact = c .before .before .before .before .before .compact in
+    let compact2 = c .before .before .before .compact2 in
+    let e : compact .result ≡ State (compact2 .given .0 .0) = cc in
+    let m = sym (compact .ensures) ∙ e in
+    let ready = singleton-ready (args .store .now) (args .scratch .now) (at-admit .last .1 .0) (args .parent .0) (args .state .0) (at-admit .result) (at-admit .ensures) (enum-told .given .1) in
+    let o = placed (args .store .now) (args .state .0) (placedSingle (args .store .now) (args .parent .0) (args .state .0)) (compact2 .given .0 .0) m in
     (ready .0, ready .1, omega (arith, o .0, o .1))
 
-same-length-3 : tie.Need-same-length-3
-same-length-3 c = search needs
-
-same-length-4 : tie.Need-same-length-4
-same-length-4 c = search needs
-
 returns-2 : tie.Need-returns-2
-returns-2 c = singleton-mark (c .before .before .before .before .before .before .before .before .before .before .before .before .before .before .before .before .args .store .now) (c .before .before .before .before .before .before .before .before .before .before .before .before .before .before .before .before .args .scratch .now) (c .before .before .before .before .before .before .before .before .before .before .before .admit .last .1 .0) (c .before .before .before .before .before .before .before .before .before .before .before .before .before .before .before .before .args .parent .0) (c .before .before .before .before .before .before .before .before .before .before .before .before .before .before .before .before .args .state .0) (c .before .before .before .before .before .before .before .before .before .before .before .admit .result) (c .before .before .before .before .before .before .before .before .before .before .before .admit .ensures) (c .before .before .before .before .before .before .before .enum-told .given .1) _ (c .before .before .clear .ensures) (sym (c .before .before .before .before .before .before .compact .ensures) ∙ c .before .before .before .before .enum-told2 .given .1)
-
-same-length-5 : tie.Need-same-length-5
-same-length-5 c = search needs
-
-same-length-6 : tie.Need-same-length-6
-same-length-6 c = search needs
+returns-2 c =
+    let args = c .before .before .before .before .before .before .before .before .before .before .before .before .before .before .before .before .args in
+    let at-admit = c .before .before .before .before .before .before .before .before .before .before .before .admit in
+    let enum-told = c .before .before .before .before .before .before .before .enum-told in
+    let compact = c .before .before .before .before .before .before .compact in
+    let enum-told2 = c .before .before .before .before .enum-told2 in
+    singleton-mark (args .store .now) (args .scratch .now) (at-admit .last .1 .0) (args .parent .0) (args .state .0) (at-admit .result)
+    (at-admit .ensures) (enum-told .given .1) _ (c .before .before .clear .ensures) (sym (compact .ensures) ∙ enum-told2 .given .1)
 
 returns-3 : tie.Need-returns-3
-returns-3 c = singleton-out (c .before .before .before .before .before .before .before .before .before .before .before .before .before .before .before .before .args .store .now) (c .before .before .before .before .before .before .before .before .before .before .before .before .before .before .before .before .args .scratch .now) (c .before .before .before .before .before .before .before .before .before .before .before .admit .last .1 .0) (c .before .before .before .before .before .before .before .before .before .before .before .before .before .before .before .before .args .parent .0) (c .before .before .before .before .before .before .before .before .before .before .before .before .before .before .before .before .args .state .0) (c .before .before .before .before .before .before .before .before .before .before .before .admit .result) (c .before .before .before .before .before .before .before .before .before .before .before .admit .ensures) (c .before .before .before .before .before .before .before .enum-told .given .1) _ (c .before .before .clear2 .ensures) (sym (c .before .before .before .before .before .before .compact .ensures) ∙ c .before .before .before .before .enum-told3 .given .1)
-
-same-length-7 : tie.Need-same-length-7
-same-length-7 c = search needs
-
-same-length-8 : tie.Need-same-length-8
-same-length-8 c = search needs
+returns-3 c =
+    let args = c .before .before .before .before .before .before .before .before .before .before .before .before .before .before .before .before .args in
+    let at-admit = c .before .before .before .before .before .before .before .before .before .before .before .admit in
+    let enum-told = c .before .before .before .before .before .before .before .enum-told in
+    let compact = c .before .before .before .before .before .before .compact in
+    let enum-told3 = c .before .before .before .before .enum-told3 in
+    singleton-out (args .store .now) (args .scratch .now) (at-admit .last .1 .0) (args .parent .0) (args .state .0) (at-admit .result)
+    (at-admit .ensures) (enum-told .given .1) _ (c .before .before .clear2 .ensures) (sym (compact .ensures) ∙ enum-told3 .given .1)
 
 returns-4 : tie.Need-returns-4
 returns-4 c =
-    let e : c .before .before .before .before .before .before .before .before .before .before .compact .result ≡ State (c .before .before .before .before .before .before .before .before .compact2 .given .0 .0) = cc in
-    let m = sym (c .before .before .before .before .before .before .before .before .before .before .compact .ensures) ∙ e in
-    singleton-placed (c .before .before .before .before .before .before .before .before .before .before .before .before .before .before .before .before .before .before .before .before .args .store .now) (c .before .before .before .before .before .before .before .before .before .before .before .before .before .before .before .before .before .before .before .before .args .scratch .now) (c .before .before .before .before .before .before .before .before .before .before .before .before .before .before .before .admit .last .1 .0) (c .before .before .before .before .before .before .before .before .before .before .before .before .before .before .before .before .before .before .before .before .args .parent .0) (c .before .before .before .before .before .before .before .before .before .before .before .before .before .before .before .before .before .before .before .before .args .state .0) (c .before .before .before .before .before .before .before .before .before .before .before .before .before .before .before .admit .result) (c .before .before .before .before .before .before .before .before .before .before .before .before .before .before .before .admit .ensures) (c .before .before .before .before .before .before .before .before .before .before .before .enum-told .given .1) (c .before .before .before .before .before .before .before .before .compact2 .given .0 .0) m _ (c .before .before .before .before .place-single .ensures)
+    let args = c .before .before .before .before .before .before .before .before .before .before .before .before .before .before .before .before .before .before .before .before .args in
+    let at-admit = c .before .before .before .before .before .before .before .before .before .before .before .before .before .before .before .admit in
+    let enum-told = c .before .before .before .before .before .before .before .before .before .before .before .enum-told in
+    let compact = c .before .before .before .before .before .before .before .before .before .before .compact in
+    let compact2 = c .before .before .before .before .before .before .before .before .compact2 in
+    let place-single = c .before .before .before .before .place-single in
+    let e : compact .result ≡ State (compact2 .given .0 .0) = cc in
+    let m = sym (compact .ensures) ∙ e in
+    singleton-placed (args .store .now) (args .scratch .now) (at-admit .last .1 .0) (args .parent .0) (args .state .0) (at-admit .result)
+    (at-admit .ensures) (enum-told .given .1) (compact2 .given .0 .0) m _ (place-single .ensures)
 
 pub singleton-spec : {M : Type 1} → statement M
 singleton-spec =
     tie.close
     (tie.spec
-    admit-requires
-    enum-known-admitted
-    same-length
-    same-length-2
+    (λ c κs. search needs) (λ c. search needs) (λ c. search needs) (λ c. search needs)
     returns
-    enum-told
-    compact-requires
-    enum-told-2
-    clear-requires
-    enum-told-3
-    clear-requires-2
-    enum-known-compact
+    (λ c. search needs) (λ c κs. search needs) (λ c. search needs) (λ c κs. search needs) (λ c. search needs)
+    (λ c κs. search needs) (λ c. search needs)
     place-single-requires
-    same-length-3
-    same-length-4
+    (λ c. search needs) (λ c. search needs)
     returns-2
-    same-length-5
-    same-length-6
+    (λ c. search needs) (λ c. search needs)
     returns-3
-    same-length-7
-    same-length-8
+    (λ c. search needs) (λ c. search needs)
     returns-4)

@@ -17,42 +17,43 @@ abbrev μ-loop : tie.MeasureT-loop
 μ-loop store₀ scratch used at n i₀ store i = n - i
 
 loop-holds : tie.Need-loop-holds Inv-loop μ-loop
-loop-holds c = (omega arith, c .before .before .pre .0 .0, fill-start (c .before .before .args .store .now) (c .before .before .args .scratch .now) (c .before .before .args .used) (c .before .before .args .at) (c .before .before .args .n))
-
-add-stack-parent : tie.Need-add-stack-parent Inv-loop μ-loop
-add-stack-parent c = search needs
+loop-holds c =
+    let args = c .before .before .args in
+    (omega arith, c .before .before .pre .0 .0, fill-start (args .store .now) (args .scratch .now) (args .used) (args .at) (args .n))
 
 stack-parent-requires : tie.Need-stack-parent-requires Inv-loop μ-loop
-stack-parent-requires c κs = (c .before .before .before .before .pre .1 .sized, omega (arith, c .before .before .before .before .pre .1 .room))
-
-add-stack-state : tie.Need-add-stack-state Inv-loop μ-loop
-add-stack-state c = search needs
+stack-parent-requires c κs =
+    let pre = c .before .before .before .before .pre in
+    (pre .1 .sized, omega (arith, pre .1 .room))
 
 stack-state-requires : tie.Need-stack-state-requires Inv-loop μ-loop
-stack-state-requires c κs = (c .before .before .before .before .before .pre .1 .sized, omega (arith, c .before .before .before .before .before .pre .1 .room))
-
-add-put-pool : tie.Need-add-put-pool Inv-loop μ-loop
-add-put-pool c = search needs
+stack-state-requires c κs =
+    let pre = c .before .before .before .before .before .pre in
+    (pre .1 .sized, omega (arith, pre .1 .room))
 
 put-pool-requires : tie.Need-put-pool-requires Inv-loop μ-loop
-put-pool-requires c κs = (c .before .before .before .before .loop .inv .1, omega arith)
-
-add-i : tie.Need-add-i Inv-loop μ-loop
-add-i c = search needs
-
-loop-less : tie.Need-loop-less Inv-loop μ-loop
-loop-less c = search needs
+put-pool-requires c κs =
+    let loop = c .before .before .before .before .loop in
+    (loop .inv .1, omega arith)
 
 loop-again : tie.Need-loop-again Inv-loop μ-loop
 loop-again c =
-    let turn = fill-turn (c .before .before .before .before .before .before .before .loop .store) (c .before .before .before .before .before .before .before .before .before .before .args .scratch .now) (c .before .before .before .before .before .before .before .before .before .before .args .used) (c .before .before .before .before .before .before .before .before .before .before .args .at) (c .before .before .before .before .before .before .before .before .before .before .args .n) 512 (c .before .before .before .before .before .before .before .loop .i) (c .before .before .before .before .before .before .before .before .before .before .pre .1) (c .before .before .before .before .before .before .loop-test .taken) in
-    rw (c .before .before .put-pool .ensures, c .before .before .before .before .before .stack-parent .ensures, c .before .before .before .before .stack-state .ensures) (omega arith, length-putPool _ _ _ _ ∙ c .before .before .before .before .before .before .before .loop .inv .1, c .before .before .before .before .before .before .before .loop .inv .2 ∙ turn)
-
-same-length : tie.Need-same-length Inv-loop μ-loop
-same-length c = search needs
+    let args = c .before .before .before .before .before .before .before .before .before .before .args in
+    let pre = c .before .before .before .before .before .before .before .before .before .before .pre in
+    let loop = c .before .before .before .before .before .before .before .loop in
+    let loop-test = c .before .before .before .before .before .before .loop-test in
+    let stack-parent = c .before .before .before .before .before .stack-parent in
+    let stack-state = c .before .before .before .before .stack-state in
+    let turn = fill-turn (loop .store) (args .scratch .now) (args .used) (args .at) (args .n) 512 (loop .i) (pre .1) (loop-test .taken) in
+    rw (c .before .before .put-pool .ensures, stack-parent .ensures, stack-state .ensures)
+    (omega arith, length-putPool _ _ _ _ ∙ loop .inv .1, loop .inv .2 ∙ turn)
 
 returns : tie.Need-returns Inv-loop μ-loop
-returns c = sym (c .before .loop .inv .2 ∙ fill-end (c .before .loop .store) (c .before .before .before .before .args .scratch .now) (c .before .before .before .before .args .used) (c .before .before .before .before .args .at) (c .before .before .before .before .args .n) (c .before .loop .i) (omega arith))
+returns c =
+    let args = c .before .before .before .before .args in
+    sym
+    (c .before .loop .inv .2 ∙ fill-end (c .before .loop .store) (args .scratch .now) (args .used) (args .at) (args .n)
+    (c .before .loop .i) (omega arith))
 
 pub fill-pool-spec : {M : Type 1} → statement M
 fill-pool-spec =
@@ -61,14 +62,13 @@ fill-pool-spec =
     Inv-loop
     μ-loop
     loop-holds
-    add-stack-parent
+    (λ c. search needs)
     stack-parent-requires
-    add-stack-state
+    (λ c. search needs)
     stack-state-requires
-    add-put-pool
+    (λ c. search needs)
     put-pool-requires
-    add-i
-    loop-less
+    (λ c. search needs) (λ c. search needs)
     loop-again
-    same-length
+    (λ c. search needs)
     returns)

@@ -6,23 +6,19 @@ use Rattle.ffi.specs.Exact.{refused-answer}
 use Rattle.ffi.proofs.answers.count_answer.Statement.{statement}
 use Rattle.ffi.proofs.answers.count_answer.Tie as tie
 
-enum-known-answer : tie.Need-enum-known-answer
-enum-known-answer c = search needs
-
-enum-known-answer-2 : tie.Need-enum-known-answer-2
-enum-known-answer-2 c = search needs
-
-refusal-answer-requires : tie.Need-refusal-answer-requires
-refusal-answer-requires c κs = search needs
-
 returns : tie.Need-returns
 unfolding unless answerOf
 returns c = rw (c .before .answer .given .1) (refl, refl)
 
 returns-2 : tie.Need-returns-2
-returns-2 c = rw (c .before .before .answer2 .given .1) (refused-answer (c .before .before .answer2 .given .0 .0) (c .refusal-answer .result) _ (c .refusal-answer .ensures))
+returns-2 c =
+    let answer2 = c .before .before .answer2 in
+    rw (answer2 .given .1) (refused-answer (answer2 .given .0 .0) (c .refusal-answer .result) _ (c .refusal-answer .ensures))
 
 pub count-answer-spec : {M : Type 1} → statement M
 count-answer-spec =
     tie.close
-    (tie.spec enum-known-answer enum-known-answer-2 refusal-answer-requires returns returns-2)
+    (tie.spec
+    (λ c. search needs) (λ c. search needs) (λ c κs. search needs)
+    returns
+    returns-2)

@@ -6,21 +6,6 @@ use Rattle.ffi.specs.Exact.{refused-entry}
 use Rattle.ffi.proofs.answers.parent_answer.Statement.{statement}
 use Rattle.ffi.proofs.answers.parent_answer.Tie as tie
 
-enum-known-answer : tie.Need-enum-known-answer
-enum-known-answer c = search needs
-
-cast-t5 : tie.Need-cast-t5
-cast-t5 c = search needs
-
-enum-told : tie.Need-enum-told
-enum-told c = search needs
-
-enum-known-answer-2 : tie.Need-enum-known-answer-2
-enum-known-answer-2 c = search needs
-
-refusal-entry-requires : tie.Need-refusal-entry-requires
-refusal-entry-requires c κs = search needs
-
 returns : tie.Need-returns
 unfolding unless entryOf ifFound
 returns c = rw (c .before .before .answer .given .1) (refl, refl)
@@ -30,17 +15,15 @@ unfolding unless entryOf ifFound
 returns-2 c = rw (c .enum-told .given .1) (refl, refl)
 
 returns-3 : tie.Need-returns-3
-returns-3 c = rw (c .before .before .answer2 .given .1) (refused-entry (c .before .before .answer2 .given .0 .0) (c .refusal-entry .result) _ (c .refusal-entry .ensures))
+returns-3 c =
+    let answer2 = c .before .before .answer2 in
+    rw (answer2 .given .1) (refused-entry (answer2 .given .0 .0) (c .refusal-entry .result) _ (c .refusal-entry .ensures))
 
 pub parent-answer-spec : {M : Type 1} → statement M
 parent-answer-spec =
     tie.close
     (tie.spec
-    enum-known-answer
-    cast-t5
-    enum-told
-    enum-known-answer-2
-    refusal-entry-requires
+    (λ c. search needs) (λ c. search needs) (λ c. search needs) (λ c. search needs) (λ c κs. search needs)
     returns
     returns-2
     returns-3)

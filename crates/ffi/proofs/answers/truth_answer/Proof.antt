@@ -6,18 +6,6 @@ use Rattle.ffi.specs.Exact.{refused-answer}
 use Rattle.ffi.proofs.answers.truth_answer.Statement.{statement}
 use Rattle.ffi.proofs.answers.truth_answer.Tie as tie
 
-enum-told : tie.Need-enum-told
-enum-told c = search needs
-
-enum-told-2 : tie.Need-enum-told-2
-enum-told-2 c = search needs
-
-enum-known-answer : tie.Need-enum-known-answer
-enum-known-answer c = search needs
-
-refusal-answer-requires : tie.Need-refusal-answer-requires
-refusal-answer-requires c κs = search needs
-
 returns : tie.Need-returns
 unfolding unless answerOf
 returns c = rw (c .enum-told .given .1) (refl, refl)
@@ -27,16 +15,15 @@ unfolding unless answerOf
 returns-2 c = rw (c .enum-told2 .given .1) (refl, refl)
 
 returns-3 : tie.Need-returns-3
-returns-3 c = rw (c .before .before .answer .given .1) (refused-answer (c .before .before .answer .given .0 .0) (c .refusal-answer .result) _ (c .refusal-answer .ensures))
+returns-3 c =
+    let answer = c .before .before .answer in
+    rw (answer .given .1) (refused-answer (answer .given .0 .0) (c .refusal-answer .result) _ (c .refusal-answer .ensures))
 
 pub truth-answer-spec : {M : Type 1} → statement M
 truth-answer-spec =
     tie.close
     (tie.spec
-    enum-told
-    enum-told-2
-    enum-known-answer
-    refusal-answer-requires
+    (λ c. search needs) (λ c. search needs) (λ c. search needs) (λ c κs. search needs)
     returns
     returns-2
     returns-3)

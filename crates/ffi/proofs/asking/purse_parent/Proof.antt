@@ -5,17 +5,12 @@ use Rattle.ffi.specs.Exact.{door}
 use Rattle.ffi.proofs.asking.purse_parent.Statement.{statement}
 use Rattle.ffi.proofs.asking.purse_parent.Tie as tie
 
-parent-requires : tie.Need-parent-requires
-parent-requires c κs = search needs
-
-parent-answer-requires : tie.Need-parent-answer-requires
-parent-answer-requires c κs = search needs
-
-same-length : tie.Need-same-length
-same-length c = search needs
-
 returns : tie.Need-returns
 returns c = door entryOf (c .parent-answer .result) _ _ _ _ _ (c .parent-answer .ensures) (c .before .before .before .parent .ensures)
 
 pub purse-parent-spec : {M : Type 1} → statement M
-purse-parent-spec = tie.close (tie.spec parent-requires parent-answer-requires same-length returns)
+purse-parent-spec =
+    tie.close
+    (tie.spec
+    (λ c κs. search needs) (λ c κs. search needs) (λ c. search needs)
+    returns)

@@ -13,28 +13,17 @@ use Rattle.words.specs.Hash.{hashOf}
 use Rattle.hashes.proofs.records.agrees.Statement.{statement}
 use Rattle.hashes.proofs.records.agrees.Tie as tie
 
-word-at-requires : tie.Need-word-at-requires
-word-at-requires c κs = search needs
-
 returns : tie.Need-returns
 returns c =
-    let bytes : List ℕ = c .before .before .before .before .args .bytes .now in
+    let args = c .before .before .before .before .args in
+    let bytes : List ℕ = args .bytes .now in
     sym (agreeing-long bytes (omega (arith, c .before .word-at .ensures)))
-
-slice-relend-prefix-list-hash : tie.Need-slice-relend-prefix-list-hash
-slice-relend-prefix-list-hash c = search needs
 
 slice-aggregate-list-hash : tie.Need-slice-aggregate-list-hash
 slice-aggregate-list-hash c = sym (length-take-le _ _ (omega arith))
 
 list-hash-requires : tie.Need-list-hash-requires
 list-hash-requires c κs = simp length-take (omega arith)
-
-word-at-requires-2 : tie.Need-word-at-requires-2
-word-at-requires-2 c κs = search needs
-
-same-length : tie.Need-same-length
-same-length c = search needs
 
 returns-2 : tie.Need-returns-2
 returns-2 c =
@@ -52,11 +41,10 @@ pub agrees-spec : {M : Type 1} → statement M
 agrees-spec =
     tie.close
     (tie.spec
-    word-at-requires
+    (λ c κs. search needs)
     returns
-    slice-relend-prefix-list-hash
+    (λ c. search needs)
     slice-aggregate-list-hash
     list-hash-requires
-    word-at-requires-2
-    same-length
+    (λ c κs. search needs) (λ c. search needs)
     returns-2)

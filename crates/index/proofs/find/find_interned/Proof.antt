@@ -17,44 +17,73 @@ Inv-loop store scratch count at n hash chain next₀ next = (next ≤ count) × 
 abbrev μ-loop : tie.MeasureT-loop
 μ-loop store scratch count at n hash chain next₀ next = next
 
-bucket-requires : tie.Need-bucket-requires Inv-loop μ-loop
-bucket-requires c κs = search needs
-
-mul-next : tie.Need-mul-next Inv-loop μ-loop
-mul-next c = search needs
-
-shared-slice-read-next : tie.Need-shared-slice-read-next Inv-loop μ-loop
-shared-slice-read-next c = search needs
-
 loop-holds : tie.Need-loop-holds Inv-loop μ-loop
-loop-holds c = (begin (c .before .before .before .before .args .store .now) (c .before .before .before .before .args .scratch .now) (c .before .before .before .before .args .count) (c .before .before .before .before .args .at) (c .before .before .before .before .args .n) (c .before .before .before .before .args .hash) (c .before .before .before .before .pre) (c .before .bucket .result) (c .before .bucket .ensures .0) (c .before .bucket .ensures .1))
-
-sub-candidate : tie.Need-sub-candidate Inv-loop μ-loop
-sub-candidate c = search needs
-
-cast-candidate : tie.Need-cast-candidate Inv-loop μ-loop
-cast-candidate c = search needs
+loop-holds c =
+    let args = c .before .before .before .before .args in
+    let pre = c .before .before .before .before .pre in
+    (begin (args .store .now) (args .scratch .now) (args .count) (args .at) (args .n) (args .hash) pre (c .before .bucket .result)
+    (c .before .bucket .ensures .0) (c .before .bucket .ensures .1))
 
 same-record-requires : tie.Need-same-record-requires Inv-loop μ-loop
-same-record-requires c κs = ((c .before .before .before .before .before .before .pre .records, here (c .before .before .before .before .before .before .args .store .now) (c .before .before .before .before .before .before .args .scratch .now) (c .before .before .before .before .before .before .args .count) (c .before .before .before .before .before .before .args .at) (c .before .before .before .before .before .before .args .n) (c .before .before .before .before .before .before .args .hash) (c .before .before .before .before .before .before .pre) (c .before .loop .next) (c .loop-test .taken) (c .before .loop .inv)), (c .before .before .before .before .before .before .pre .stacked, c .before .before .before .before .before .before .pre .proper))
-
-sub-t16 : tie.Need-sub-t16 Inv-loop μ-loop
-sub-t16 c = search needs
+same-record-requires c κs =
+    let pre = c .before .before .before .before .before .before .pre in
+    let args = c .before .before .before .before .before .before .args in (
+      (
+        pre .records,
+        here (args .store .now) (args .scratch .now) (args .count) (args .at) (args .n) (args .hash) pre (c .before .loop .next)
+            (c .loop-test .taken) (c .before .loop .inv),
+      ),
+      (pre .stacked, pre .proper),
+    )
 
 returns : tie.Need-returns Inv-loop μ-loop
-returns c = sym (hit (c .before .before .before .before .before .before .before .before .args .store .now) (c .before .before .before .before .before .before .before .before .args .scratch .now) (c .before .before .before .before .before .before .before .before .args .count) (c .before .before .before .before .before .before .before .before .args .at) (c .before .before .before .before .before .before .before .before .args .n) (c .before .before .before .before .before .before .before .before .args .hash) (c .before .before .before .before .before .before .before .before .pre) (c .before .before .before .loop .next) (c .before .before .loop-test .taken) (c .before .before .before .loop .inv) (sym (c .if1 .taken) ∙ c .before .same-record .ensures))
+returns c =
+    let args = c .before .before .before .before .before .before .before .before .args in
+    let pre = c .before .before .before .before .before .before .before .before .pre in
+    let loop = c .before .before .before .loop in
+    sym
+    (hit (args .store .now) (args .scratch .now) (args .count) (args .at) (args .n) (args .hash) pre (loop .next)
+    (c .before .before .loop-test .taken) (loop .inv) (sym (c .if1 .taken) ∙ c .before .same-record .ensures))
 
 link-of-requires : tie.Need-link-of-requires Inv-loop μ-loop
-link-of-requires c κs = (c .before .before .before .before .before .before .before .before .pre .stacked .sized, omega (arith, c .before .before .before .before .before .before .before .before .pre .records .few, here (c .before .before .before .before .before .before .before .before .args .store .now) (c .before .before .before .before .before .before .before .before .args .scratch .now) (c .before .before .before .before .before .before .before .before .args .count) (c .before .before .before .before .before .before .before .before .args .at) (c .before .before .before .before .before .before .before .before .args .n) (c .before .before .before .before .before .before .before .before .args .hash) (c .before .before .before .before .before .before .before .before .pre) (c .before .before .before .loop .next) (c .before .before .loop-test .taken) (c .before .before .before .loop .inv)))
+link-of-requires c κs =
+    let pre = c .before .before .before .before .before .before .before .before .pre in
+    let args = c .before .before .before .before .before .before .before .before .args in
+    let loop = c .before .before .before .loop in (
+      pre .stacked .sized,
+      omega (
+        arith,
+        pre .records .few,
+        here (args .store .now) (args .scratch .now) (args .count) (args .at) (args .n) (args .hash) pre
+            (loop .next) (c .before .before .loop-test .taken) (loop .inv),
+      ),
+    )
 
 loop-less : tie.Need-loop-less Inv-loop μ-loop
-loop-less c = rw (c .link-of .ensures) (onward (c .before .before .before .before .before .before .before .before .before .args .store .now) (c .before .before .before .before .before .before .before .before .before .args .scratch .now) (c .before .before .before .before .before .before .before .before .before .args .count) (c .before .before .before .before .before .before .before .before .before .args .at) (c .before .before .before .before .before .before .before .before .before .args .n) (c .before .before .before .before .before .before .before .before .before .args .hash) (c .before .before .before .before .before .before .before .before .before .pre) (c .before .before .before .before .loop .next) (c .before .before .before .loop-test .taken) (c .before .before .before .before .loop .inv) (sym (c .before .if1 .left) ∙ c .before .before .same-record .ensures) .1)
+loop-less c =
+    let args = c .before .before .before .before .before .before .before .before .before .args in
+    let pre = c .before .before .before .before .before .before .before .before .before .pre in
+    let loop = c .before .before .before .before .loop in
+    rw (c .link-of .ensures)
+    (onward (args .store .now) (args .scratch .now) (args .count) (args .at) (args .n) (args .hash) pre (loop .next)
+    (c .before .before .before .loop-test .taken) (loop .inv) (sym (c .before .if1 .left) ∙ c .before .before .same-record .ensures) .1)
 
 loop-again : tie.Need-loop-again Inv-loop μ-loop
-loop-again c = rw (c .link-of .ensures) (onward (c .before .before .before .before .before .before .before .before .before .args .store .now) (c .before .before .before .before .before .before .before .before .before .args .scratch .now) (c .before .before .before .before .before .before .before .before .before .args .count) (c .before .before .before .before .before .before .before .before .before .args .at) (c .before .before .before .before .before .before .before .before .before .args .n) (c .before .before .before .before .before .before .before .before .before .args .hash) (c .before .before .before .before .before .before .before .before .before .pre) (c .before .before .before .before .loop .next) (c .before .before .before .loop-test .taken) (c .before .before .before .before .loop .inv) (sym (c .before .if1 .left) ∙ c .before .before .same-record .ensures) .0)
+loop-again c =
+    let args = c .before .before .before .before .before .before .before .before .before .args in
+    let pre = c .before .before .before .before .before .before .before .before .before .pre in
+    let loop = c .before .before .before .before .loop in
+    rw (c .link-of .ensures)
+    (onward (args .store .now) (args .scratch .now) (args .count) (args .at) (args .n) (args .hash) pre (loop .next)
+    (c .before .before .before .loop-test .taken) (loop .inv) (sym (c .before .if1 .left) ∙ c .before .before .same-record .ensures) .0)
 
 returns-2 : tie.Need-returns-2 Inv-loop μ-loop
-returns-2 c = sym (missing (c .before .before .before .before .before .before .args .store .now) (c .before .before .before .before .before .before .args .scratch .now) (c .before .before .before .before .before .before .args .count) (c .before .before .before .before .before .before .args .at) (c .before .before .before .before .before .before .args .n) (c .before .before .before .before .before .before .args .hash) (c .before .before .before .before .before .before .pre) (c .before .loop .next) (c .loop-test .left) (c .before .loop .inv))
+returns-2 c =
+    let args = c .before .before .before .before .before .before .args in
+    let pre = c .before .before .before .before .before .before .pre in
+    sym
+    (missing (args .store .now) (args .scratch .now) (args .count) (args .at) (args .n) (args .hash) pre (c .before .loop .next)
+    (c .loop-test .left) (c .before .loop .inv))
 
 pub find-interned-spec : {M : Type 1} → statement M
 find-interned-spec =
@@ -62,14 +91,11 @@ find-interned-spec =
     (tie.spec
     Inv-loop
     μ-loop
-    bucket-requires
-    mul-next
-    shared-slice-read-next
+    (λ c κs. search needs) (λ c. search needs) (λ c. search needs)
     loop-holds
-    sub-candidate
-    cast-candidate
+    (λ c. search needs) (λ c. search needs)
     same-record-requires
-    sub-t16
+    (λ c. search needs)
     returns
     link-of-requires
     loop-less

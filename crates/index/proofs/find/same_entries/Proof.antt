@@ -18,51 +18,56 @@ abbrev μ-loop : tie.MeasureT-loop
 loop-holds : tie.Need-loop-holds Inv-loop μ-loop
 loop-holds c = (omega arith, λ j h. absurd (omega arith))
 
-add-pool-parent : tie.Need-add-pool-parent Inv-loop μ-loop
-add-pool-parent c = search needs
-
 pool-parent-requires : tie.Need-pool-parent-requires Inv-loop μ-loop
 pool-parent-requires c κs = (omega arith, omega arith)
-
-add-stack-parent : tie.Need-add-stack-parent Inv-loop μ-loop
-add-stack-parent c = search needs
 
 stack-parent-requires : tie.Need-stack-parent-requires Inv-loop μ-loop
 stack-parent-requires c κs = (omega arith, omega arith)
 
 returns : tie.Need-returns Inv-loop μ-loop
 returns c =
-    sym (parent-other (c .before .before .before .before .before .before .before .args .store .now) (c .before .before .before .before .before .before .before .args .scratch .now) (c .before .before .before .before .before .before .before .args .from) (c .before .before .before .before .before .before .before .args .at) (c .before .before .before .before .before .before .before .args .n) (c .before .before .before .before .before .before .before .pre .0 .2) (c .before .before .before .before .before .before .before .pre .1) (c .before .before .before .before .loop .i) (omega arith) (λ e. c .if1 .taken (c .before .before .pool-parent .ensures ∙ e ∙ sym (c .before .stack-parent .ensures))))
-
-add-pool-state : tie.Need-add-pool-state Inv-loop μ-loop
-add-pool-state c = search needs
+    let args = c .before .before .before .before .before .before .before .args in
+    let pre = c .before .before .before .before .before .before .before .pre in
+    let loop = c .before .before .before .before .loop in
+    sym
+    (parent-other (args .store .now) (args .scratch .now) (args .from) (args .at) (args .n) (pre .0 .2) (pre .1) (loop .i) (omega arith)
+    (λ e. c .if1 .taken (c .before .before .pool-parent .ensures ∙ e ∙ sym (c .before .stack-parent .ensures))))
 
 pool-state-requires : tie.Need-pool-state-requires Inv-loop μ-loop
 pool-state-requires c κs = (omega arith, omega arith)
-
-add-stack-state : tie.Need-add-stack-state Inv-loop μ-loop
-add-stack-state c = search needs
 
 stack-state-requires : tie.Need-stack-state-requires Inv-loop μ-loop
 stack-state-requires c κs = (omega arith, omega arith)
 
 returns-2 : tie.Need-returns-2 Inv-loop μ-loop
 returns-2 c =
-    sym (state-other (c .before .before .before .before .before .before .before .before .before .before .args .store .now) (c .before .before .before .before .before .before .before .before .before .before .args .scratch .now) (c .before .before .before .before .before .before .before .before .before .before .args .from) (c .before .before .before .before .before .before .before .before .before .before .args .at) (c .before .before .before .before .before .before .before .before .before .before .args .n) (c .before .before .before .before .before .before .before .before .before .before .pre .0 .2) (c .before .before .before .before .before .before .before .before .before .before .pre .1) (c .before .before .before .before .before .before .before .loop .i) (omega arith) (λ e. c .if2 .taken (c .before .before .pool-state .ensures ∙ e ∙ sym (c .before .stack-state .ensures))))
-
-add-i : tie.Need-add-i Inv-loop μ-loop
-add-i c = search needs
-
-loop-less : tie.Need-loop-less Inv-loop μ-loop
-loop-less c = search needs
+    let args = c .before .before .before .before .before .before .before .before .before .before .args in
+    let pre = c .before .before .before .before .before .before .before .before .before .before .pre in
+    let loop = c .before .before .before .before .before .before .before .loop in
+    sym
+    (state-other (args .store .now) (args .scratch .now) (args .from) (args .at) (args .n) (pre .0 .2) (pre .1) (loop .i) (omega arith)
+    (λ e. c .if2 .taken (c .before .before .pool-state .ensures ∙ e ∙ sym (c .before .stack-state .ensures))))
 
 loop-again : tie.Need-loop-again Inv-loop μ-loop
 loop-again c =
-    (omega arith, below-more _ _ (c .before .before .before .before .before .before .before .loop .inv .1) (sym (c .before .before .pool-state .ensures) ∙ c .if2 .left ∙ c .before .stack-state .ensures, sym (c .before .before .before .before .before .pool-parent .ensures) ∙ c .before .before .before .if1 .left ∙ c .before .before .before .before .stack-parent .ensures))
+    let loop = c .before .before .before .before .before .before .before .loop in
+    let pool-parent = c .before .before .before .before .before .pool-parent in
+    let stack-parent = c .before .before .before .before .stack-parent in (
+      omega arith,
+      below-more _ _ (loop .inv .1) (
+        sym (c .before .before .pool-state .ensures) ∙ c .if2 .left ∙ c .before .stack-state .ensures,
+        sym (pool-parent .ensures) ∙ c
+            .before .before .before .if1 .left ∙ stack-parent .ensures,
+      ),
+    )
 
 returns-3 : tie.Need-returns-3 Inv-loop μ-loop
 returns-3 c =
-    sym (entries-same (c .before .before .before .before .args .store .now) (c .before .before .before .before .args .scratch .now) (c .before .before .before .before .args .from) (c .before .before .before .before .args .at) (c .before .before .before .before .args .n) (c .before .before .before .before .pre .0 .2) (c .before .before .before .before .pre .1) (λ j h. c .before .loop .inv .1 j (omega arith)))
+    let args = c .before .before .before .before .args in
+    let pre = c .before .before .before .before .pre in
+    sym
+    (entries-same (args .store .now) (args .scratch .now) (args .from) (args .at) (args .n) (pre .0 .2) (pre .1)
+    (λ j h. c .before .loop .inv .1 j (omega arith)))
 
 pub same-entries-spec : {M : Type 1} → statement M
 same-entries-spec =
@@ -71,17 +76,16 @@ same-entries-spec =
     Inv-loop
     μ-loop
     loop-holds
-    add-pool-parent
+    (λ c. search needs)
     pool-parent-requires
-    add-stack-parent
+    (λ c. search needs)
     stack-parent-requires
     returns
-    add-pool-state
+    (λ c. search needs)
     pool-state-requires
-    add-stack-state
+    (λ c. search needs)
     stack-state-requires
     returns-2
-    add-i
-    loop-less
+    (λ c. search needs) (λ c. search needs)
     loop-again
     returns-3)

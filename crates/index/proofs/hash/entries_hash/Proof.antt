@@ -7,47 +7,30 @@ use Rattle.index.specs.Walk.{single-hash, dollar-hash}
 use Rattle.index.proofs.hash.entries_hash.Statement.{statement}
 use Rattle.index.proofs.hash.entries_hash.Tie as tie
 
-array-hash-requires : tie.Need-array-hash-requires
-array-hash-requires c κs = search needs
-
-returns : tie.Need-returns
-returns c = search needs
-
-stack-state-requires : tie.Need-stack-state-requires
-stack-state-requires c κs = search needs
-
-empty-hash-requires : tie.Need-empty-hash-requires
-empty-hash-requires c κs = search needs
-
 returns-2 : tie.Need-returns-2
-returns-2 c = let one : c .before .before .before .before .before .args .n ≡ 1 = omega arith in rw one (c .empty-hash .ensures ∙ sym (dollar-hash (hashIn (c .before .before .before .before .before .args .scratch .now)) (c .before .before .before .before .before .args .scratch .now) (c .before .before .before .before .before .args .at) (sym (c .before .before .stack-state .ensures) ∙ c .before .if2 .taken)))
-
-stack-parent-requires : tie.Need-stack-parent-requires
-stack-parent-requires c κs = search needs
-
-cast-parent : tie.Need-cast-parent
-cast-parent c = search needs
+returns-2 c =
+    let args = c .before .before .before .before .before .args in
+    let one : args .n ≡ 1 = omega arith in rw one (c .empty-hash .ensures ∙ sym (dollar-hash (hashIn (args .scratch .now)) (args .scratch .now) (args .at) (sym (c .before .before .stack-state .ensures) ∙ c .before .if2 .taken)))
 
 context-hash-requires : tie.Need-context-hash-requires
-context-hash-requires c κs = (omega arith, rw (c .stack-parent .ensures) (c .before .before .before .before .before .pre .0 .entries .older (c .before .before .before .before .before .args .at) (omega arith) (omega arith)))
-
-singleton-hash-requires : tie.Need-singleton-hash-requires
-singleton-hash-requires c κs = search needs
+context-hash-requires c κs =
+    let pre = c .before .before .before .before .before .pre in
+    let args = c .before .before .before .before .before .args in
+    (omega arith, rw (c .stack-parent .ensures) (pre .0 .entries .older (args .at) (omega arith) (omega arith)))
 
 returns-3 : tie.Need-returns-3
-returns-3 c = let one : c .before .before .before .before .before .before .before .args .n ≡ 1 = omega arith in rw one (c .singleton-hash .ensures ∙ (rw (c .before .context-hash .ensures, c .before .before .stack-parent .ensures, c .before .before .before .before .stack-state .ensures)) ∙ sym (single-hash (hashIn (c .before .before .before .before .before .before .before .args .scratch .now)) (c .before .before .before .before .before .before .before .args .scratch .now) (c .before .before .before .before .before .before .before .args .at) (λ e. c .before .before .before .if2 .left (c .before .before .before .before .stack-state .ensures ∙ e))))
+returns-3 c =
+    let args = c .before .before .before .before .before .before .before .args in
+    let stack-state = c .before .before .before .before .stack-state in
+    let one : args .n ≡ 1 = omega arith in rw one (c .singleton-hash .ensures ∙ (rw (c .before .context-hash .ensures, c .before .before .stack-parent .ensures, stack-state .ensures)) ∙ sym (single-hash (hashIn (args .scratch .now)) (args .scratch .now) (args .at) (λ e. c .before .before .before .if2 .left (stack-state .ensures ∙ e))))
 
 pub entries-hash-spec : {M : Type 1} → statement M
 entries-hash-spec =
     tie.close
     (tie.spec
-    array-hash-requires
-    returns
-    stack-state-requires
-    empty-hash-requires
+    (λ c κs. search needs) (λ c. search needs) (λ c κs. search needs) (λ c κs. search needs)
     returns-2
-    stack-parent-requires
-    cast-parent
+    (λ c κs. search needs) (λ c. search needs)
     context-hash-requires
-    singleton-hash-requires
+    (λ c κs. search needs)
     returns-3)

@@ -19,32 +19,31 @@ abbrev μ-loop : tie.MeasureT-loop
 loop-holds : tie.Need-loop-holds Inv-loop μ-loop
 loop-holds c = (omega arith, ap (λ (k : _). hashFrom (c .before .args .seed) (parentWords (hashIn (c .before .args .scratch .now)) k)) (walk-start (c .before .args .scratch .now) (c .before .args .at) (c .before .args .n)))
 
-add-stack-parent : tie.Need-add-stack-parent Inv-loop μ-loop
-add-stack-parent c = search needs
-
 stack-parent-requires : tie.Need-stack-parent-requires Inv-loop μ-loop
 stack-parent-requires c κs = (omega arith, omega arith)
 
-cast-parent : tie.Need-cast-parent Inv-loop μ-loop
-cast-parent c = search needs
-
 context-hash-requires : tie.Need-context-hash-requires Inv-loop μ-loop
-context-hash-requires c κs = (omega arith, rw (c .stack-parent .ensures) (c .before .before .before .before .pre .entries .older (c .before .before .before .before .args .at + c .before .before .loop .i) (omega arith) (omega arith)))
-
-mix-requires : tie.Need-mix-requires Inv-loop μ-loop
-mix-requires c κs = search needs
-
-add-i : tie.Need-add-i Inv-loop μ-loop
-add-i c = search needs
-
-loop-less : tie.Need-loop-less Inv-loop μ-loop
-loop-less c = search needs
+context-hash-requires c κs =
+    let pre = c .before .before .before .before .pre in
+    let args = c .before .before .before .before .args in
+    (omega arith, rw (c .stack-parent .ensures) (pre .entries .older (args .at + c .before .before .loop .i) (omega arith) (omega arith)))
 
 loop-again : tie.Need-loop-again Inv-loop μ-loop
-loop-again c = (omega arith, c .before .before .before .before .loop .inv .1 ∙ parents-turn (hashIn (c .before .before .before .before .before .before .args .scratch .now)) (c .before .before .before .before .before .before .args .scratch .now) (c .before .before .before .before .before .before .args .at) (c .before .before .before .before .before .before .args .n) 512 (c .before .before .before .before .loop .i) (c .before .before .before .before .before .before .pre) (omega arith) (c .before .before .before .before .loop .hash) ∙ rw (c .mix .ensures, c .before .context-hash .ensures, c .before .before .stack-parent .ensures))
+loop-again c =
+    let args = c .before .before .before .before .before .before .args in
+    let pre = c .before .before .before .before .before .before .pre in
+    let loop = c .before .before .before .before .loop in (
+      omega arith,
+      loop .inv .1 ∙ parents-turn (hashIn (args .scratch .now)) (args .scratch .now) (args .at) (args .n) 512 (loop .i) pre
+          (omega arith) (loop .hash) ∙ rw (c .mix .ensures, c .before .context-hash .ensures, c .before .before .stack-parent .ensures),
+    )
 
 returns : tie.Need-returns Inv-loop μ-loop
-returns c = sym (c .before .loop .inv .1 ∙ parents-end (hashIn (c .before .before .before .args .scratch .now)) (c .before .before .before .args .scratch .now) (c .before .before .before .args .at) (c .before .before .before .args .n) (c .before .loop .i) (c .before .loop .hash) (omega arith))
+returns c =
+    let args = c .before .before .before .args in
+    sym
+    (c .before .loop .inv .1 ∙ parents-end (hashIn (args .scratch .now)) (args .scratch .now) (args .at) (args .n) (c .before .loop .i)
+    (c .before .loop .hash) (omega arith))
 
 pub mix-parents-spec : {M : Type 1} → statement M
 mix-parents-spec =
@@ -53,12 +52,10 @@ mix-parents-spec =
     Inv-loop
     μ-loop
     loop-holds
-    add-stack-parent
+    (λ c. search needs)
     stack-parent-requires
-    cast-parent
+    (λ c. search needs)
     context-hash-requires
-    mix-requires
-    add-i
-    loop-less
+    (λ c κs. search needs) (λ c. search needs) (λ c. search needs)
     loop-again
     returns)

@@ -19,29 +19,23 @@ abbrev μ-loop : tie.MeasureT-loop
 loop-holds : tie.Need-loop-holds Inv-loop μ-loop
 loop-holds c = (omega arith, ap (λ (k : _). hashFrom (c .before .args .seed) (stateWords k)) (walk-start (c .before .args .scratch .now) (c .before .args .at) (c .before .args .n)))
 
-add-stack-state : tie.Need-add-stack-state Inv-loop μ-loop
-add-stack-state c = search needs
-
 stack-state-requires : tie.Need-stack-state-requires Inv-loop μ-loop
 stack-state-requires c κs = (omega arith, omega arith)
 
-cast-mix : tie.Need-cast-mix Inv-loop μ-loop
-cast-mix c = search needs
-
-mix-requires : tie.Need-mix-requires Inv-loop μ-loop
-mix-requires c κs = search needs
-
-add-i : tie.Need-add-i Inv-loop μ-loop
-add-i c = search needs
-
-loop-less : tie.Need-loop-less Inv-loop μ-loop
-loop-less c = search needs
-
 loop-again : tie.Need-loop-again Inv-loop μ-loop
-loop-again c = (omega arith, c .before .before .before .loop .inv .1 ∙ states-turn (λ x. x) (c .before .before .before .before .before .args .scratch .now) (c .before .before .before .before .before .args .at) (c .before .before .before .before .before .args .n) 512 (c .before .before .before .loop .i) (c .before .before .before .before .before .pre) (omega arith) (c .before .before .before .loop .hash) ∙ rw (c .mix .ensures, c .before .stack-state .ensures))
+loop-again c =
+    let args = c .before .before .before .before .before .args in
+    let pre = c .before .before .before .before .before .pre in
+    let loop = c .before .before .before .loop in (
+      omega arith,
+      loop .inv .1 ∙ states-turn (λ x. x) (args .scratch .now) (args .at) (args .n) 512 (loop .i) pre (omega arith) (loop .hash) ∙
+          rw (c .mix .ensures, c .before .stack-state .ensures),
+    )
 
 returns : tie.Need-returns Inv-loop μ-loop
-returns c = sym (c .before .loop .inv .1 ∙ states-end (c .before .before .before .args .scratch .now) (c .before .before .before .args .at) (c .before .before .before .args .n) (c .before .loop .i) (c .before .loop .hash) (omega arith))
+returns c =
+    let args = c .before .before .before .args in
+    sym (c .before .loop .inv .1 ∙ states-end (args .scratch .now) (args .at) (args .n) (c .before .loop .i) (c .before .loop .hash) (omega arith))
 
 pub mix-states-spec : {M : Type 1} → statement M
 mix-states-spec =
@@ -50,11 +44,8 @@ mix-states-spec =
     Inv-loop
     μ-loop
     loop-holds
-    add-stack-state
+    (λ c. search needs)
     stack-state-requires
-    cast-mix
-    mix-requires
-    add-i
-    loop-less
+    (λ c. search needs) (λ c κs. search needs) (λ c. search needs) (λ c. search needs)
     loop-again
     returns)

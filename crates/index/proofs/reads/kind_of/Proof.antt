@@ -5,22 +5,13 @@ use Rattle.layout.specs.Layout.{kind}
 use Rattle.index.proofs.reads.kind_of.Statement.{statement}
 use Rattle.index.proofs.reads.kind_of.Tie as tie
 
-mul-result : tie.Need-mul-result
-mul-result c = search needs
-
-add-result : tie.Need-add-result
-add-result c = search needs
-
-mul-result-2 : tie.Need-mul-result-2
-mul-result-2 c = search needs
-
-shared-slice-read-result : tie.Need-shared-slice-read-result
-shared-slice-read-result c = search needs
-
 returns : tie.Need-returns
 unfolding kind
 returns c = refl
 
 pub kind-of-spec : {M : Type 1} → statement M
 kind-of-spec =
-    tie.close (tie.spec mul-result add-result mul-result-2 shared-slice-read-result returns)
+    tie.close
+    (tie.spec
+    (λ c. search needs) (λ c. search needs) (λ c. search needs) (λ c. search needs)
+    returns)

@@ -5,12 +5,13 @@ use Rattle.layout.specs.Layout.{used}
 use Rattle.index.proofs.reads.used_of.Statement.{statement}
 use Rattle.index.proofs.reads.used_of.Tie as tie
 
-shared-slice-read-result : tie.Need-shared-slice-read-result
-shared-slice-read-result c = search needs
-
 returns : tie.Need-returns
 unfolding used
 returns c = refl
 
 pub used-of-spec : {M : Type 1} → statement M
-used-of-spec = tie.close (tie.spec shared-slice-read-result returns)
+used-of-spec =
+    tie.close
+    (tie.spec
+    (λ c. search needs)
+    returns)

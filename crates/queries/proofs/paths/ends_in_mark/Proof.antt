@@ -10,28 +10,42 @@ kind-of-requires : tie.Need-kind-of-requires
 kind-of-requires c κs = (c .before .pre .sized, few (c .before .pre))
 
 first-of-requires : tie.Need-first-of-requires
-first-of-requires c κs = (c .before .before .before .pre .sized, few (c .before .before .before .pre))
-
-cast-from : tie.Need-cast-from
-cast-from c = search needs
+first-of-requires c κs =
+    let pre = c .before .before .before .pre in
+    (pre .sized, few pre)
 
 second-of-requires : tie.Need-second-of-requires
-second-of-requires c κs = (c .before .before .before .before .pre .sized, few (c .before .before .before .before .pre))
-
-cast-n : tie.Need-cast-n
-cast-n c = search needs
-
-add-pool-state : tie.Need-add-pool-state
-add-pool-state c = search needs
+second-of-requires c κs =
+    let pre = c .before .before .before .before .pre in
+    (pre .sized, few pre)
 
 sub-pool-state : tie.Need-sub-pool-state
-sub-pool-state c = omega (arith, bounds-read (c .before .before .before .before .before .pre) (sym (c .before .before .before .kind-of .ensures) ∙ c .before .before .if1 .taken) (c .before .first-of .result) (c .second-of .result) (c .before .first-of .ensures) (c .second-of .ensures))
+sub-pool-state c =
+    let pre = c .before .before .before .before .before .pre in
+    omega (
+      arith,
+      bounds-read pre (sym (c .before .before .before .kind-of .ensures) ∙ c .before .before .if1 .taken)
+          (c .before .first-of .result) (c .second-of .result) (c .before .first-of .ensures) (c .second-of .ensures),
+    )
 
 pool-state-requires : tie.Need-pool-state-requires
-pool-state-requires c κs = (c .before .before .before .before .before .pre .sized, omega (arith, bounds-read (c .before .before .before .before .before .pre) (sym (c .before .before .before .kind-of .ensures) ∙ c .before .before .if1 .taken) (c .before .first-of .result) (c .second-of .result) (c .before .first-of .ensures) (c .second-of .ensures)))
+pool-state-requires c κs =
+    let pre = c .before .before .before .before .before .pre in (
+      pre .sized,
+      omega (
+        arith,
+        bounds-read pre (sym (c .before .before .before .kind-of .ensures) ∙ c .before .before .if1 .taken)
+            (c .before .first-of .result) (c .second-of .result) (c .before .first-of .ensures) (c .second-of .ensures),
+      ),
+    )
 
 returns : tie.Need-returns
-returns c = last-read (c .before .before .before .before .before .before .pre) (sym (c .before .before .before .before .kind-of .ensures) ∙ c .before .before .before .if1 .taken) (c .before .before .first-of .result) (c .before .second-of .result) (c .before .before .first-of .ensures) (c .before .second-of .ensures) (c .pool-state .result) (c .pool-state .ensures)
+returns c =
+    let pre = c .before .before .before .before .before .before .pre in
+    let kind-of = c .before .before .before .before .kind-of in
+    let first-of = c .before .before .first-of in
+    last-read pre (sym (kind-of .ensures) ∙ c .before .before .before .if1 .taken) (first-of .result) (c .before .second-of .result)
+    (first-of .ensures) (c .before .second-of .ensures) (c .pool-state .result) (c .pool-state .ensures)
 
 returns-2 : tie.Need-returns-2
 returns-2 c = rw (c .before .kind-of .ensures) (sym (path-other (c .before .before .before .pre) (λ e. c .if1 .left (c .before .kind-of .ensures ∙ e))))
@@ -42,10 +56,9 @@ ends-in-mark-spec =
     (tie.spec
     kind-of-requires
     first-of-requires
-    cast-from
+    (λ c. search needs)
     second-of-requires
-    cast-n
-    add-pool-state
+    (λ c. search needs) (λ c. search needs)
     sub-pool-state
     pool-state-requires
     returns

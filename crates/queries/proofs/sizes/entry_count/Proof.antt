@@ -8,10 +8,14 @@ kind-of-requires : tie.Need-kind-of-requires
 kind-of-requires c κs = (c .before .pre .sized, few (c .before .pre))
 
 second-of-requires : tie.Need-second-of-requires
-second-of-requires c κs = (c .before .before .before .pre .sized, few (c .before .before .before .pre))
+second-of-requires c κs =
+    let pre = c .before .before .before .pre in
+    (pre .sized, few pre)
 
 returns : tie.Need-returns
-returns c = c .second-of .ensures ∙ sym (size-many (c .before .before .before .before .pre) (sym (c .before .before .kind-of .ensures) ∙ c .before .if1 .taken))
+returns c =
+    let pre = c .before .before .before .before .pre in
+    c .second-of .ensures ∙ sym (size-many pre (sym (c .before .before .kind-of .ensures) ∙ c .before .if1 .taken))
 
 returns-2 : tie.Need-returns-2
 returns-2 c = sym (size-other (c .before .before .before .pre) (λ e. c .if1 .left (c .before .kind-of .ensures ∙ e)))

@@ -1,56 +1,35 @@
--- A refusal is that of the checks; else the entries are counted and the scratch cleared.
+-- A refusal is that of the checks; else the entries are counted.
 use borrow.Author.Needs.{needs}
-use mathlib.Core.Path.{_≡_, ap}
-use Rattle.store.specs.Calls.{count}
+use mathlib.Core.Path.{_≡_}
 use Rattle.store.specs.declared.inner.admit.Admitted.the-variants.{Refused}
 use Rattle.queries.specs.Queries.{lenCall}
-use Rattle.queries.specs.Leaves.{known-of, leaves, stays}
 use Rattle.queries.proofs.sizes.len.Statement.{statement}
 use Rattle.queries.proofs.sizes.len.Tie as tie
 
-admit-requires : tie.Need-admit-requires
-admit-requires c κs = search needs
-
-enum-known-admitted : tie.Need-enum-known-admitted
-enum-known-admitted c = search needs
-
-same-length : tie.Need-same-length
-same-length c = search needs
-
 returns : tie.Need-returns
 unfolding lenCall
-returns c = let e : c .before .before .before .before .before .admit .result ≡ Refused (c .before .admitted .given .0 .0) = cc in stays (c .before .before .before .before .before .before .before .before .before .args .store .now) (c .before .before .before .before .before .before .before .before .before .args .scratch .now) (c .before .before .before .before .before .before .before .before .before .args .context .0) (c .before .before .before .before .before .admit .last .1 .0) (c .before .before .before .before .before .admit .result) (c .before .before .before .before .before .admit .ensures) (c .before .admitted .given .0 .0) e _
-
-enum-told : tie.Need-enum-told
-enum-told c = search needs
-
-cast-entry-count : tie.Need-cast-entry-count
-cast-entry-count c = search needs
+returns c =
+    let ask = c .before .before .before .before .before .ask in
+    let e : ask .result ≡ Refused (c .before .asked .given .0 .0) = cc in ask .ensures .refuses (c .before .asked .given .0 .0) e _
 
 entry-count-requires : tie.Need-entry-count-requires
-entry-count-requires c κs = known-of (c .before .before .before .before .before .before .before .before .before .args .store .now) (c .before .before .before .before .before .before .before .before .before .args .scratch .now) (c .before .before .before .before .before .before .before .before .before .args .context .0) (c .before .before .before .before .before .admit .last .1 .0) (c .before .before .before .before .before .admit .result) (c .before .before .before .before .before .admit .ensures) (c .before .enum-told .given .1)
-
-clear-requires : tie.Need-clear-requires
-clear-requires c κs = search needs
-
-same-length-2 : tie.Need-same-length-2
-same-length-2 c = search needs
+entry-count-requires c κs =
+    let ask = c .before .before .before .before .before .ask in
+    ask .ensures .known (c .before .enum-told .given .1)
 
 returns-2 : tie.Need-returns-2
 unfolding lenCall
-returns-2 c = leaves (c .before .before .before .before .before .before .before .before .before .before .before .before .before .before .args .store .now) (c .before .before .before .before .before .before .before .before .before .before .before .before .before .before .args .scratch .now) (c .before .before .before .before .before .before .before .before .before .before .before .before .before .before .args .context .0) (c .before .before .before .before .before .before .before .before .before .before .admit .last .1 .0) (c .before .before .before .before .before .before .before .before .before .before .admit .result) (c .before .before .before .before .before .before .before .before .before .before .admit .ensures) (c .before .before .before .before .before .before .enum-told .given .1) (count (c .before .before .before .before .entry-count .result)) _ (c .before .before .clear .last .0) (ap count (c .before .before .before .before .entry-count .ensures)) (c .before .before .clear .ensures)
+returns-2 c =
+    let ask = c .before .before .before .before .before .before .ask in
+    rw (c .entry-count .ensures) (ask .ensures .replies (c .before .before .enum-told .given .1) _)
 
 pub len-spec : {M : Type 1} → statement M
 len-spec =
     tie.close
     (tie.spec
-    admit-requires
-    enum-known-admitted
-    same-length
+    (λ c κs. search needs) (λ c. search needs) (λ c. search needs)
     returns
-    enum-told
-    cast-entry-count
+    (λ c. search needs) (λ c. search needs)
     entry-count-requires
-    clear-requires
-    same-length-2
+    (λ c. search needs)
     returns-2)

@@ -10,25 +10,37 @@ second-of-requires : tie.Need-second-of-requires
 second-of-requires c κs = (c .before .pre .0 .sized, few (c .before .pre .0))
 
 first-of-requires : tie.Need-first-of-requires
-first-of-requires c κs = (c .before .before .before .pre .0 .sized, few (c .before .before .before .pre .0))
-
-cast-from : tie.Need-cast-from
-cast-from c = search needs
-
-add-pool-state : tie.Need-add-pool-state
-add-pool-state c = search needs
+first-of-requires c κs =
+    let pre = c .before .before .before .pre in
+    (pre .0 .sized, few (pre .0))
 
 pool-state-requires : tie.Need-pool-state-requires
-pool-state-requires c κs = (c .before .before .before .before .pre .0 .sized, omega (arith, c .before .if1 .taken, bounds-read (c .before .before .before .before .pre .0) (c .before .before .before .before .pre .1) (c .first-of .result) (c .before .before .second-of .result) (c .first-of .ensures) (c .before .before .second-of .ensures)))
-
-expand-requires : tie.Need-expand-requires
-expand-requires c κs = search needs
+pool-state-requires c κs =
+    let pre = c .before .before .before .before .pre in
+    let second-of = c .before .before .second-of in (
+      pre .0 .sized,
+      omega (
+        arith,
+        c .before .if1 .taken,
+        bounds-read (pre .0) (pre .1) (c .first-of .result) (second-of .result) (c .first-of .ensures)
+            (second-of .ensures),
+      ),
+    )
 
 returns : tie.Need-returns
-returns c = state-read (c .before .before .before .before .before .before .pre .0) (c .before .before .before .before .before .before .pre .1) (c .before .before .first-of .result) (c .before .before .before .before .second-of .result) (c .before .before .first-of .ensures) (c .before .before .before .before .second-of .ensures) (c .before .before .before .before .before .before .args .index) (c .before .before .before .if1 .taken) (c .before .pool-state .result) (c .expand .result .0) (c .before .pool-state .ensures) (c .expand .ensures)
+returns c =
+    let pre = c .before .before .before .before .before .before .pre in
+    let args = c .before .before .before .before .before .before .args in
+    let second-of = c .before .before .before .before .second-of in
+    let first-of = c .before .before .first-of in
+    state-read (pre .0) (pre .1) (first-of .result) (second-of .result) (first-of .ensures) (second-of .ensures) (args .index)
+    (c .before .before .before .if1 .taken) (c .before .pool-state .result) (c .expand .result .0) (c .before .pool-state .ensures)
+    (c .expand .ensures)
 
 returns-2 : tie.Need-returns-2
-returns-2 c = sym (state-many-past (c .before .before .before .pre .0) (c .before .before .before .args .index) (c .before .before .before .pre .1) (omega (arith, c .before .second-of .ensures)))
+returns-2 c =
+    let pre = c .before .before .before .pre in
+    sym (state-many-past (pre .0) (c .before .before .before .args .index) (pre .1) (omega (arith, c .before .second-of .ensures)))
 
 pub array-state-spec : {M : Type 1} → statement M
 array-state-spec =
@@ -36,9 +48,8 @@ array-state-spec =
     (tie.spec
     second-of-requires
     first-of-requires
-    cast-from
-    add-pool-state
+    (λ c. search needs) (λ c. search needs)
     pool-state-requires
-    expand-requires
+    (λ c κs. search needs)
     returns
     returns-2)

@@ -1,56 +1,35 @@
--- A refusal is that of the checks; else the entry's state is read and the scratch cleared.
+-- A refusal is that of the checks; else the entry's state is read.
 use borrow.Author.Needs.{needs}
 use mathlib.Core.Path.{_≡_}
 use Rattle.store.specs.declared.inner.admit.Admitted.the-variants.{Refused}
 use Rattle.queries.specs.Queries.{returnStateCall}
-use Rattle.queries.specs.Answers.{stateFound}
-use Rattle.queries.specs.Leaves.{known-of, leaves, stays}
 use Rattle.queries.proofs.states.return_state.Statement.{statement}
 use Rattle.queries.proofs.states.return_state.Tie as tie
 
-admit-requires : tie.Need-admit-requires
-admit-requires c κs = search needs
-
-enum-known-admitted : tie.Need-enum-known-admitted
-enum-known-admitted c = search needs
-
-same-length : tie.Need-same-length
-same-length c = search needs
-
 returns : tie.Need-returns
 unfolding returnStateCall
-returns c = let e : c .before .before .before .before .before .admit .result ≡ Refused (c .before .admitted .given .0 .0) = cc in stays (c .before .before .before .before .before .before .before .before .before .args .store .now) (c .before .before .before .before .before .before .before .before .before .args .scratch .now) (c .before .before .before .before .before .before .before .before .before .args .context .0) (c .before .before .before .before .before .admit .last .1 .0) (c .before .before .before .before .before .admit .result) (c .before .before .before .before .before .admit .ensures) (c .before .admitted .given .0 .0) e _
-
-enum-told : tie.Need-enum-told
-enum-told c = search needs
-
-cast-state-at : tie.Need-cast-state-at
-cast-state-at c = search needs
+returns c =
+    let ask = c .before .before .before .before .before .ask in
+    let e : ask .result ≡ Refused (c .before .asked .given .0 .0) = cc in ask .ensures .refuses (c .before .asked .given .0 .0) e _
 
 state-at-requires : tie.Need-state-at-requires
-state-at-requires c κs = known-of (c .before .before .before .before .before .before .before .before .before .args .store .now) (c .before .before .before .before .before .before .before .before .before .args .scratch .now) (c .before .before .before .before .before .before .before .before .before .args .context .0) (c .before .before .before .before .before .admit .last .1 .0) (c .before .before .before .before .before .admit .result) (c .before .before .before .before .before .admit .ensures) (c .before .enum-told .given .1)
-
-clear-requires : tie.Need-clear-requires
-clear-requires c κs = search needs
-
-same-length-2 : tie.Need-same-length-2
-same-length-2 c = search needs
+state-at-requires c κs =
+    let ask = c .before .before .before .before .before .ask in
+    ask .ensures .known (c .before .enum-told .given .1)
 
 returns-2 : tie.Need-returns-2
 unfolding returnStateCall
-returns-2 c = leaves (c .before .before .before .before .before .before .before .before .before .before .before .before .before .before .args .store .now) (c .before .before .before .before .before .before .before .before .before .before .before .before .before .before .args .scratch .now) (c .before .before .before .before .before .before .before .before .before .before .before .before .before .before .args .context .0) (c .before .before .before .before .before .before .before .before .before .before .admit .last .1 .0) (c .before .before .before .before .before .before .before .before .before .before .admit .result) (c .before .before .before .before .before .before .before .before .before .before .admit .ensures) (c .before .before .before .before .before .before .enum-told .given .1) (stateFound (c .before .before .before .before .state-at .result)) _ (c .before .before .clear .last .0) (c .before .before .before .before .state-at .ensures) (c .before .before .clear .ensures)
+returns-2 c =
+    let ask = c .before .before .before .before .before .before .ask in
+    rw (c .state-at .ensures) (ask .ensures .replies (c .before .before .enum-told .given .1) _)
 
 pub return-state-spec : {M : Type 1} → statement M
 return-state-spec =
     tie.close
     (tie.spec
-    admit-requires
-    enum-known-admitted
-    same-length
+    (λ c κs. search needs) (λ c. search needs) (λ c. search needs)
     returns
-    enum-told
-    cast-state-at
+    (λ c. search needs) (λ c. search needs)
     state-at-requires
-    clear-requires
-    same-length-2
+    (λ c. search needs)
     returns-2)

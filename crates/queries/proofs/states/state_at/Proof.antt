@@ -17,20 +17,32 @@ returns : tie.Need-returns
 returns c = c .array-state .ensures
 
 returns-2 : tie.Need-returns-2
-returns-2 c = sym (state-other-past (c .before .before .before .before .pre) (c .before .before .before .before .args .index) (λ e. c .before .if1 .left (c .before .before .kind-of .ensures ∙ e)) (c .if2 .taken))
+returns-2 c =
+    let pre = c .before .before .before .before .pre in
+    let args = c .before .before .before .before .args in
+    sym (state-other-past pre (args .index) (λ e. c .before .if1 .left (c .before .before .kind-of .ensures ∙ e)) (c .if2 .taken))
 
 second-of-requires : tie.Need-second-of-requires
-second-of-requires c κs = (c .before .before .before .before .before .pre .sized, few (c .before .before .before .before .before .pre))
-
-expand-requires : tie.Need-expand-requires
-expand-requires c κs = search needs
+second-of-requires c κs =
+    let pre = c .before .before .before .before .before .pre in
+    (pre .sized, few pre)
 
 returns-3 : tie.Need-returns-3
 returns-3 c =
-    ap state (c .expand .ensures ∙ ap expanded (c .before .second-of .ensures)) ∙ sym (state-one (c .before .before .before .before .before .before .before .pre) (c .before .before .before .before .before .before .before .args .index) (sym (c .before .before .before .before .before .kind-of .ensures) ∙ c .before .before .if3 .taken) (c .before .before .before .if2 .left))
+    let pre = c .before .before .before .before .before .before .before .pre in
+    let args = c .before .before .before .before .before .before .before .args in
+    let kind-of = c .before .before .before .before .before .kind-of in
+    ap state (c .expand .ensures ∙ ap expanded (c .before .second-of .ensures)) ∙ sym
+    (state-one pre (args .index) (sym (kind-of .ensures) ∙ c .before .before .if3 .taken) (c .before .before .before .if2 .left))
 
 returns-4 : tie.Need-returns-4
-returns-4 c = sym (state-zero (c .before .before .before .before .before .pre) (c .before .before .before .before .before .args .index) (λ e. c .before .before .if1 .left (c .before .before .before .kind-of .ensures ∙ e)) (λ e. c .if3 .left (c .before .before .before .kind-of .ensures ∙ e)) (c .before .if2 .left))
+returns-4 c =
+    let pre = c .before .before .before .before .before .pre in
+    let args = c .before .before .before .before .before .args in
+    let kind-of = c .before .before .before .kind-of in
+    sym
+    (state-zero pre (args .index) (λ e. c .before .before .if1 .left (kind-of .ensures ∙ e)) (λ e. c .if3 .left (kind-of .ensures ∙ e))
+    (c .before .if2 .left))
 
 pub state-at-spec : {M : Type 1} → statement M
 state-at-spec =
@@ -41,6 +53,6 @@ state-at-spec =
     returns
     returns-2
     second-of-requires
-    expand-requires
+    (λ c κs. search needs)
     returns-3
     returns-4)

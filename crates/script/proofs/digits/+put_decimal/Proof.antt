@@ -37,14 +37,16 @@ put-decimal-add-put-byte t c = omega arith
 put-decimal-put-byte-requires : (t : ℕ) → put-decimal-lts.Need-put-byte-requires (put-decimal-claims t) (put-decimal-at t) put-decimal.Post
 put-decimal-put-byte-requires t c κs = omega (arith, length-small (c .before .before .before .args .n) (c .before .if1 .taken), c .before .before .before .pre .1)
 
-put-decimal-same-length : (t : ℕ) → put-decimal-lts.Need-same-length (put-decimal-claims t) (put-decimal-at t) put-decimal.Post
-put-decimal-same-length t c = search needs
-
 put-decimal-returns : (t : ℕ) → put-decimal-lts.Need-returns (put-decimal-claims t) (put-decimal-at t) put-decimal.Post
-put-decimal-returns t c = rw (decimal-small (c .before .before .before .before .before .before .args .n) (c .before .before .before .before .if1 .taken)) (c .before .before .put-byte .ensures)
+put-decimal-returns t c =
+    let args = c .before .before .before .before .before .before .args in
+    let if1 = c .before .before .before .before .if1 in
+    rw (decimal-small (args .n) (if1 .taken)) (c .before .before .put-byte .ensures)
 
 put-decimal-put-decimal-requires : (t : ℕ) → put-decimal-lts.Need-put-decimal-requires (put-decimal-claims t) (put-decimal-at t) put-decimal.Post
-put-decimal-put-decimal-requires t c κs = (omega (arith, c .before .before .before .pre .0), omega (arith, length-more (c .before .before .before .args .n) (c .before .if1 .left), c .before .before .before .pre .1))
+put-decimal-put-decimal-requires t c κs =
+    let pre = c .before .before .before .pre in
+    (omega (arith, pre .0), omega (arith, length-more (c .before .before .before .args .n) (c .before .if1 .left), pre .1))
 
 put-decimal-cast-put-byte-2 : (t : ℕ) → put-decimal-lts.Need-cast-put-byte-2 (put-decimal-claims t) (put-decimal-at t) put-decimal.Post
 put-decimal-cast-put-byte-2 t c = omega arith
@@ -53,24 +55,30 @@ put-decimal-add-put-byte-2 : (t : ℕ) → put-decimal-lts.Need-add-put-byte-2 (
 put-decimal-add-put-byte-2 t c = omega arith
 
 put-decimal-put-byte-requires-2 : (t : ℕ) → put-decimal-lts.Need-put-byte-requires-2 (put-decimal-claims t) (put-decimal-at t) put-decimal.Post
-put-decimal-put-byte-requires-2 t c κs = omega (arith, c .before .before .before .put-decimal .ensures .after, wrote-length (c .before .before .before .put-decimal .ensures), length-more (c .before .before .before .before .before .before .before .args .n) (c .before .before .before .before .before .if1 .left), c .before .before .before .before .before .before .before .pre .1)
-
-put-decimal-same-length-2 : (t : ℕ) → put-decimal-lts.Need-same-length-2 (put-decimal-claims t) (put-decimal-at t) put-decimal.Post
-put-decimal-same-length-2 t c = search needs
+put-decimal-put-byte-requires-2 t c κs =
+    let args = c .before .before .before .before .before .before .before .args in
+    let pre = c .before .before .before .before .before .before .before .pre in
+    let if1 = c .before .before .before .before .before .if1 in
+    let at-put-decimal = c .before .before .before .put-decimal in
+    omega (arith, at-put-decimal .ensures .after, wrote-length (at-put-decimal .ensures), length-more (args .n) (if1 .left), pre .1)
 
 put-decimal-returns-2 : (t : ℕ) → put-decimal-lts.Need-returns-2 (put-decimal-claims t) (put-decimal-at t) put-decimal.Post
-put-decimal-returns-2 t c = rw (decimal-more (c .before .before .before .before .before .before .before .before .before .before .args .n) (c .before .before .before .before .before .before .before .before .if1 .left)) (wrote-then (c .before .before .before .before .before .before .put-decimal .ensures) (c .before .before .put-byte2 .ensures))
+put-decimal-returns-2 t c =
+    let args = c .before .before .before .before .before .before .before .before .before .before .args in
+    let if1 = c .before .before .before .before .before .before .before .before .if1 in
+    let at-put-decimal = c .before .before .before .before .before .before .put-decimal in
+    rw (decimal-more (args .n) (if1 .left)) (wrote-then (at-put-decimal .ensures) (c .before .before .put-byte2 .ensures))
 
 pub +put-decimal-spec : {M : Type 1} → statement M
 +put-decimal-spec = close μ-put-decimal λ t. put-decimal-lts.spec (put-decimal-claims t) (put-decimal-at t) put-decimal.Post
     (put-decimal-cast-put-byte t)
     (put-decimal-add-put-byte t)
     (put-decimal-put-byte-requires t)
-    (put-decimal-same-length t)
+    (λ c. search needs)
     (put-decimal-returns t)
     (put-decimal-put-decimal-requires t)
     (put-decimal-cast-put-byte-2 t)
     (put-decimal-add-put-byte-2 t)
     (put-decimal-put-byte-requires-2 t)
-    (put-decimal-same-length-2 t)
+    (λ c. search needs)
     (put-decimal-returns-2 t)

@@ -7,43 +7,72 @@ use Rattle.script.proofs.entries.lay_entries.Statement.{statement}
 use Rattle.script.proofs.entries.lay_entries.Tie as tie
 
 kind-of-requires : tie.Need-kind-of-requires
-kind-of-requires c κs = (c .before .before .pre .0 .sized, known-few (c .before .before .args .store .now) (c .before .before .args .context) (c .before .before .pre .0))
+kind-of-requires c κs =
+    let pre = c .before .before .pre in
+    let args = c .before .before .args in
+    (pre .0 .sized, known-few (args .store .now) (args .context) (pre .0))
 
 first-of-requires : tie.Need-first-of-requires
-first-of-requires c κs = (c .before .before .before .pre .0 .sized, known-few (c .before .before .before .args .store .now) (c .before .before .before .args .context) (c .before .before .before .pre .0))
+first-of-requires c κs =
+    let pre = c .before .before .before .pre in
+    let args = c .before .before .before .args in
+    (pre .0 .sized, known-few (args .store .now) (args .context) (pre .0))
 
 second-of-requires : tie.Need-second-of-requires
-second-of-requires c κs = (c .before .before .before .before .pre .0 .sized, known-few (c .before .before .before .before .args .store .now) (c .before .before .before .before .args .context) (c .before .before .before .before .pre .0))
-
-lay-one-requires : tie.Need-lay-one-requires
-lay-one-requires c κs = search needs
-
-same-length : tie.Need-same-length
-same-length c = search needs
+second-of-requires c κs =
+    let pre = c .before .before .before .before .pre in
+    let args = c .before .before .before .before .args in
+    (pre .0 .sized, known-few (args .store .now) (args .context) (pre .0))
 
 returns : tie.Need-returns
-returns c = rw (← line-zero (c .before .before .before .before .before .before .before .before .before .before .args .store .now) (c .before .before .before .before .before .before .before .before .before .before .args .context) (c .before .before .before .before .before .before .before .before .before .before .pre .0) (sym (c .before .before .before .before .before .before .before .kind-of .ensures) ∙ c .before .before .before .before .if1 .taken)) (c .before .before .lay-one .ensures)
-
-lay-one-requires-2 : tie.Need-lay-one-requires-2
-lay-one-requires-2 c κs = search needs
-
-same-length-2 : tie.Need-same-length-2
-same-length-2 c = search needs
+returns c =
+    let args = c .before .before .before .before .before .before .before .before .before .before .args in
+    let pre = c .before .before .before .before .before .before .before .before .before .before .pre in
+    let kind-of = c .before .before .before .before .before .before .before .kind-of in
+    let if1 = c .before .before .before .before .if1 in
+    rw (← line-zero (args .store .now) (args .context) (pre .0) (sym (kind-of .ensures) ∙ if1 .taken)) (c .before .before .lay-one .ensures)
 
 returns-2 : tie.Need-returns-2
-returns-2 c = rw (← line-one (c .before .before .before .before .before .before .before .before .before .before .before .args .store .now) (c .before .before .before .before .before .before .before .before .before .before .before .args .context) (c .before .before .before .before .before .before .before .before .before .before .before .pre .0) (sym (c .before .before .before .before .before .before .before .before .kind-of .ensures) ∙ c .before .before .before .before .if2 .taken), ← c .before .before .before .before .before .before .before .first-of .ensures, ← c .before .before .before .before .before .before .second-of .ensures) (c .before .before .lay-one2 .ensures)
-
-cast-lay-many : tie.Need-cast-lay-many
-cast-lay-many c = search needs
+returns-2 c =
+    let args = c .before .before .before .before .before .before .before .before .before .before .before .args in
+    let pre = c .before .before .before .before .before .before .before .before .before .before .before .pre in
+    let kind-of = c .before .before .before .before .before .before .before .before .kind-of in
+    let first-of = c .before .before .before .before .before .before .before .first-of in
+    let second-of = c .before .before .before .before .before .before .second-of in
+    let if2 = c .before .before .before .before .if2 in
+    rw (← line-one (args .store .now) (args .context) (pre .0) (sym (kind-of .ensures) ∙ if2 .taken), ← first-of .ensures, ← second-of .ensures)
+    (c .before .before .lay-one2 .ensures)
 
 lay-many-requires : tie.Need-lay-many-requires
-lay-many-requires c κs = (rw (c .before .before .before .before .first-of .ensures, c .before .before .before .second-of .ensures) (known-pool (c .before .before .before .before .before .before .before .before .args .store .now) (c .before .before .before .before .before .before .before .before .args .context) (c .before .before .before .before .before .before .before .before .pre .0) (known-kind (c .before .before .before .before .before .before .before .before .args .store .now) (c .before .before .before .before .before .before .before .before .args .context) (c .before .before .before .before .before .before .before .before .pre .0) (λ e. c .before .before .if1 .left (c .before .before .before .before .before .kind-of .ensures ∙ e)) (λ e. c .before .if2 .left (c .before .before .before .before .before .kind-of .ensures ∙ e)))), c .before .before .before .before .before .before .before .before .pre .1)
-
-same-length-3 : tie.Need-same-length-3
-same-length-3 c = search needs
+lay-many-requires c κs =
+    let args = c .before .before .before .before .before .before .before .before .args in
+    let pre = c .before .before .before .before .before .before .before .before .pre in
+    let kind-of = c .before .before .before .before .before .kind-of in
+    let first-of = c .before .before .before .before .first-of in (
+      rw (first-of .ensures, c .before .before .before .second-of .ensures)
+          (known-pool (args .store .now) (args .context) (pre .0)
+          (known-kind (args .store .now) (args .context) (pre .0) (λ e. c .before .before .if1 .left (kind-of .ensures ∙ e))
+          (λ e. c .before .if2 .left (kind-of .ensures ∙ e)))),
+      pre .1,
+    )
 
 returns-3 : tie.Need-returns-3
-returns-3 c = rw (← line-many (c .before .before .before .before .before .before .before .before .before .before .before .args .store .now) (c .before .before .before .before .before .before .before .before .before .before .before .args .context) (c .before .before .before .before .before .before .before .before .before .before .before .pre .0) (known-kind (c .before .before .before .before .before .before .before .before .before .before .before .args .store .now) (c .before .before .before .before .before .before .before .before .before .before .before .args .context) (c .before .before .before .before .before .before .before .before .before .before .before .pre .0) (λ e. c .before .before .before .before .before .if1 .left (c .before .before .before .before .before .before .before .before .kind-of .ensures ∙ e)) (λ e. c .before .before .before .before .if2 .left (c .before .before .before .before .before .before .before .before .kind-of .ensures ∙ e))), ← c .before .before .before .before .before .before .before .first-of .ensures, ← c .before .before .before .before .before .before .second-of .ensures) (c .before .before .lay-many .ensures)
+returns-3 c =
+    let args = c .before .before .before .before .before .before .before .before .before .before .before .args in
+    let pre = c .before .before .before .before .before .before .before .before .before .before .before .pre in
+    let kind-of = c .before .before .before .before .before .before .before .before .kind-of in
+    let first-of = c .before .before .before .before .before .before .before .first-of in
+    let second-of = c .before .before .before .before .before .before .second-of in
+    let if1 = c .before .before .before .before .before .if1 in
+    let if2 = c .before .before .before .before .if2 in
+    rw (
+      ← line-many (args .store .now) (args .context) (pre .0)
+          (known-kind (args .store .now) (args .context) (pre .0) (λ e. if1 .left (kind-of .ensures ∙ e))
+          (λ e. if2 .left (kind-of .ensures ∙ e))),
+      ← first-of .ensures,
+      ← second-of .ensures,
+    )
+    (c .before .before .lay-many .ensures)
 
 pub lay-entries-spec : {M : Type 1} → statement M
 lay-entries-spec =
@@ -52,13 +81,11 @@ lay-entries-spec =
     kind-of-requires
     first-of-requires
     second-of-requires
-    lay-one-requires
-    same-length
+    (λ c κs. search needs) (λ c. search needs)
     returns
-    lay-one-requires-2
-    same-length-2
+    (λ c κs. search needs) (λ c. search needs)
     returns-2
-    cast-lay-many
+    (λ c. search needs)
     lay-many-requires
-    same-length-3
+    (λ c. search needs)
     returns-3)

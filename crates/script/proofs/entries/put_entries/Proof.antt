@@ -17,24 +17,41 @@ abbrev μ-loop : tie.MeasureT-loop
 μ-loop out₀ at store from n next₀ i₀ out next i = n - i
 
 loop-holds : tie.Need-loop-holds Inv-loop μ-loop
-loop-holds c = (omega arith, rest-start (c .before .before .args .out .now) (c .before .before .args .at) _ _ (pool-all (c .before .before .args .store .now) (c .before .before .args .from) (c .before .before .args .n) (c .before .before .pre .0)))
+loop-holds c =
+    let args = c .before .before .args in
+    (omega arith, rest-start (args .out .now) (args .at) _ _ (pool-all (args .store .now) (args .from) (args .n) (c .before .before .pre .0)))
 
 add-pool-parent : tie.Need-add-pool-parent Inv-loop μ-loop
-add-pool-parent c = omega (arith, c .before .before .before .before .pre .0 .within)
+add-pool-parent c =
+    let pre = c .before .before .before .before .pre in
+    omega (arith, pre .0 .within)
 
 pool-parent-requires : tie.Need-pool-parent-requires Inv-loop μ-loop
-pool-parent-requires c κs = (c .before .before .before .before .pre .0 .sized, omega (arith, c .before .before .before .before .pre .0 .within))
+pool-parent-requires c κs =
+    let pre = c .before .before .before .before .pre in
+    (pre .0 .sized, omega (arith, pre .0 .within))
 
 add-pool-state : tie.Need-add-pool-state Inv-loop μ-loop
-add-pool-state c = omega (arith, c .before .before .before .before .before .pre .0 .within)
+add-pool-state c =
+    let pre = c .before .before .before .before .before .pre in
+    omega (arith, pre .0 .within)
 
 pool-state-requires : tie.Need-pool-state-requires Inv-loop μ-loop
-pool-state-requires c κs = (c .before .before .before .before .before .pre .0 .sized, omega (arith, c .before .before .before .before .before .pre .0 .within))
+pool-state-requires c κs =
+    let pre = c .before .before .before .before .before .pre in
+    (pre .0 .sized, omega (arith, pre .0 .within))
 
 put-entry-requires : tie.Need-put-entry-requires Inv-loop μ-loop
 put-entry-requires c κs =
-    rest-room (c .before .before .before .before .loop .inv .1) (entryBytes (c .before .pool-state .result) (c .before .before .pool-parent .result)) (entriesBytes (poolNode (c .before .before .before .before .before .before .before .args .store .now) (c .before .before .before .before .before .before .before .args .from + (c .before .before .before .before .loop .i + 1)) (c .before .before .before .before .before .before .before .args .n - (c .before .before .before .before .loop .i + 1))))
-    (pool-first (c .before .before .before .before .before .before .before .args .store .now) (c .before .before .before .before .before .before .before .args .from) (c .before .before .before .before .before .before .before .args .n) (c .before .before .before .before .before .before .before .pre .0) (c .before .before .before .before .loop .i) (c .before .pool-state .result) (c .before .before .pool-parent .result) (c .before .before .before .loop-test .taken) (c .before .pool-state .ensures) (c .before .before .pool-parent .ensures)) (c .before .before .before .before .before .before .before .pre .1)
+    let args = c .before .before .before .before .before .before .before .args in
+    let pre = c .before .before .before .before .before .before .before .pre in
+    let loop = c .before .before .before .before .loop in
+    let pool-parent = c .before .before .pool-parent in
+    rest-room (loop .inv .1) (entryBytes (c .before .pool-state .result) (pool-parent .result))
+    (entriesBytes (poolNode (args .store .now) (args .from + (loop .i + 1)) (args .n - (loop .i + 1))))
+    (pool-first (args .store .now) (args .from) (args .n) (pre .0) (loop .i) (c .before .pool-state .result) (pool-parent .result)
+    (c .before .before .before .loop-test .taken) (c .before .pool-state .ensures) (pool-parent .ensures))
+    (pre .1)
 
 add-i : tie.Need-add-i Inv-loop μ-loop
 add-i c = omega arith
@@ -43,13 +60,29 @@ loop-less : tie.Need-loop-less Inv-loop μ-loop
 loop-less c = omega arith
 
 loop-again : tie.Need-loop-again Inv-loop μ-loop
-loop-again c = (omega arith, rest-step (c .before .before .before .before .before .before .before .loop .inv .1) _ (pool-first (c .before .before .before .before .before .before .before .before .before .before .args .store .now) (c .before .before .before .before .before .before .before .before .before .before .args .from) (c .before .before .before .before .before .before .before .before .before .before .args .n) (c .before .before .before .before .before .before .before .before .before .before .pre .0) (c .before .before .before .before .before .before .before .loop .i) (c .before .before .before .before .pool-state .result) (c .before .before .before .before .before .pool-parent .result) (c .before .before .before .before .before .before .loop-test .taken) (c .before .before .before .before .pool-state .ensures) (c .before .before .before .before .before .pool-parent .ensures)) (c .before .before .put-entry .ensures))
+loop-again c =
+    let args = c .before .before .before .before .before .before .before .before .before .before .args in
+    let pre = c .before .before .before .before .before .before .before .before .before .before .pre in
+    let loop = c .before .before .before .before .before .before .before .loop in
+    let loop-test = c .before .before .before .before .before .before .loop-test in
+    let pool-parent = c .before .before .before .before .before .pool-parent in
+    let pool-state = c .before .before .before .before .pool-state in (
+      omega arith,
+      rest-step (loop .inv .1) _
+          (pool-first (args .store .now) (args .from) (args .n) (pre .0) (loop .i) (pool-state .result) (pool-parent .result)
+          (loop-test .taken) (pool-state .ensures) (pool-parent .ensures))
+          (c .before .before .put-entry .ensures),
+    )
 
 same-length : tie.Need-same-length Inv-loop μ-loop
 same-length c = c .before .loop .inv .1 .sized
 
 returns : tie.Need-returns Inv-loop μ-loop
-returns c = rest-done (c .before .loop .inv .1) (pool-none (c .before .before .before .before .args .store .now) (c .before .before .before .before .args .from) (c .before .before .before .before .args .n) (c .before .before .before .before .pre .0) (c .before .loop .i) (c .loop-test .left)) (c .before .before .before .before .pre .1)
+returns c =
+    let args = c .before .before .before .before .args in
+    let pre = c .before .before .before .before .pre in
+    rest-done (c .before .loop .inv .1) (pool-none (args .store .now) (args .from) (args .n) (pre .0) (c .before .loop .i) (c .loop-test .left))
+    (pre .1)
 
 pub put-entries-spec : {M : Type 1} → statement M
 put-entries-spec =

@@ -12,31 +12,79 @@ use Rattle.script.proofs.entries.put_entry.Statement.{statement}
 use Rattle.script.proofs.entries.put_entry.Tie as tie
 
 put-byte-requires : tie.Need-put-byte-requires
-put-byte-requires c κs = omega (arith, ap length (entry-stop (c .before .before .before .args .state) (c .before .before .before .args .parent) (c .before .if1 .taken)), c .before .before .before .pre)
+put-byte-requires c κs =
+    let args = c .before .before .before .args in
+    omega (arith, ap length (entry-stop (args .state) (args .parent) (c .before .if1 .taken)), c .before .before .before .pre)
 
 put-byte-requires-2 : tie.Need-put-byte-requires-2
-put-byte-requires-2 c κs = omega (arith, ap length (entry-stop (c .before .before .before .before .before .before .before .args .state) (c .before .before .before .before .before .before .before .args .parent) (c .before .before .before .before .before .if1 .taken)), c .before .before .before .before .before .before .before .pre, c .before .before .before .put-byte .ensures .after, wrote-length (c .before .before .before .put-byte .ensures))
-
-same-length : tie.Need-same-length
-same-length c = search needs
+put-byte-requires-2 c κs =
+    let args = c .before .before .before .before .before .before .before .args in
+    let pre = c .before .before .before .before .before .before .before .pre in
+    let if1 = c .before .before .before .before .before .if1 in
+    let put-byte = c .before .before .before .put-byte in
+    omega (arith, ap length (entry-stop (args .state) (args .parent) (if1 .taken)), pre, put-byte .ensures .after, wrote-length (put-byte .ensures))
 
 returns : tie.Need-returns
-returns c = rw (entry-stop (c .before .before .before .before .before .before .before .before .before .before .args .state) (c .before .before .before .before .before .before .before .before .before .before .args .parent) (c .before .before .before .before .before .before .before .before .if1 .taken)) (wrote-then (c .before .before .before .before .before .before .put-byte .ensures) (c .before .before .put-byte2 .ensures))
+returns c =
+    let args = c .before .before .before .before .before .before .before .before .before .before .args in
+    let if1 = c .before .before .before .before .before .before .before .before .if1 in
+    let put-byte = c .before .before .before .before .before .before .put-byte in
+    rw (entry-stop (args .state) (args .parent) (if1 .taken)) (wrote-then (put-byte .ensures) (c .before .before .put-byte2 .ensures))
 
 put-spaced-requires : tie.Need-put-spaced-requires
-put-spaced-requires c κs = omega (arith, ap length (entry-more (c .before .before .before .args .state) (c .before .before .before .args .parent) (c .before .if1 .left)), length-append (spaced (c .before .before .before .args .state)) (62 ∷ decimal (c .before .before .before .args .parent)), c .before .before .before .pre)
+put-spaced-requires c κs =
+    let args = c .before .before .before .args in
+    omega (
+      arith,
+      ap length (entry-more (args .state) (args .parent) (c .before .if1 .left)),
+      length-append (spaced (args .state))
+          (62 ∷ decimal (args .parent)),
+      c .before .before .before .pre,
+    )
 
 put-byte-requires-3 : tie.Need-put-byte-requires-3
-put-byte-requires-3 c κs = omega (arith, ap length (entry-more (c .before .before .before .before .before .before .before .args .state) (c .before .before .before .before .before .before .before .args .parent) (c .before .before .before .before .before .if1 .left)), length-append (spaced (c .before .before .before .before .before .before .before .args .state)) (62 ∷ decimal (c .before .before .before .before .before .before .before .args .parent)), c .before .before .before .before .before .before .before .pre, c .before .before .before .put-spaced .ensures .after, wrote-length (c .before .before .before .put-spaced .ensures))
+put-byte-requires-3 c κs =
+    let args = c .before .before .before .before .before .before .before .args in
+    let pre = c .before .before .before .before .before .before .before .pre in
+    let if1 = c .before .before .before .before .before .if1 in
+    let put-spaced = c .before .before .before .put-spaced in
+    omega (
+      arith,
+      ap length (entry-more (args .state) (args .parent) (if1 .left)),
+      length-append (spaced (args .state))
+          (62 ∷ decimal (args .parent)),
+      pre,
+      put-spaced .ensures .after,
+      wrote-length (put-spaced .ensures),
+    )
 
 put-decimal-requires : tie.Need-put-decimal-requires
-put-decimal-requires c κs = omega (arith, ap length (entry-more (c .before .before .before .before .before .before .before .before .before .before .before .args .state) (c .before .before .before .before .before .before .before .before .before .before .before .args .parent) (c .before .before .before .before .before .before .before .before .before .if1 .left)), length-append (spaced (c .before .before .before .before .before .before .before .before .before .before .before .args .state)) (62 ∷ decimal (c .before .before .before .before .before .before .before .before .before .before .before .args .parent)), c .before .before .before .before .before .before .before .before .before .before .before .pre, c .before .before .before .before .before .before .before .put-spaced .ensures .after, wrote-length (c .before .before .before .before .before .before .before .put-spaced .ensures), c .before .before .before .put-byte3 .ensures .after, wrote-length (c .before .before .before .put-byte3 .ensures))
-
-same-length-2 : tie.Need-same-length-2
-same-length-2 c = search needs
+put-decimal-requires c κs =
+    let args = c .before .before .before .before .before .before .before .before .before .before .before .args in
+    let pre = c .before .before .before .before .before .before .before .before .before .before .before .pre in
+    let if1 = c .before .before .before .before .before .before .before .before .before .if1 in
+    let put-spaced = c .before .before .before .before .before .before .before .put-spaced in
+    let put-byte3 = c .before .before .before .put-byte3 in
+    omega (
+      arith,
+      ap length (entry-more (args .state) (args .parent) (if1 .left)),
+      length-append (spaced (args .state))
+          (62 ∷ decimal (args .parent)),
+      pre,
+      put-spaced .ensures .after,
+      wrote-length (put-spaced .ensures),
+      put-byte3 .ensures .after,
+      wrote-length (put-byte3 .ensures),
+    )
 
 returns-2 : tie.Need-returns-2
-returns-2 c = rw (entry-more (c .before .before .before .before .before .before .before .before .before .before .before .before .before .before .args .state) (c .before .before .before .before .before .before .before .before .before .before .before .before .before .before .args .parent) (c .before .before .before .before .before .before .before .before .before .before .before .before .if1 .left)) (wrote-then (c .before .before .before .before .before .before .before .before .before .before .put-spaced .ensures) (wrote-then (c .before .before .before .before .before .before .put-byte3 .ensures) (c .before .before .put-decimal .ensures)))
+returns-2 c =
+    let args = c .before .before .before .before .before .before .before .before .before .before .before .before .before .before .args in
+    let if1 = c .before .before .before .before .before .before .before .before .before .before .before .before .if1 in
+    let put-spaced = c .before .before .before .before .before .before .before .before .before .before .put-spaced in
+    let put-byte3 = c .before .before .before .before .before .before .put-byte3 in
+    rw (entry-more (args .state) (args .parent) (if1 .left))
+    (wrote-then (put-spaced .ensures) (wrote-then (put-byte3 .ensures) (c .before .before .put-decimal .ensures)))
 
 pub put-entry-spec : {M : Type 1} → statement M
 put-entry-spec =
@@ -44,10 +92,10 @@ put-entry-spec =
     (tie.spec
     put-byte-requires
     put-byte-requires-2
-    same-length
+    (λ c. search needs)
     returns
     put-spaced-requires
     put-byte-requires-3
     put-decimal-requires
-    same-length-2
+    (λ c. search needs)
     returns-2)

@@ -11,15 +11,14 @@ returns : tie.Need-returns
 unfolding entry
 returns c = sym (ap entry (no-kind (c .before .args .kind) (c .if1 .taken)))
 
-mul-result : tie.Need-mul-result
-mul-result c = search needs
-
-array-read-result : tie.Need-array-read-result
-array-read-result c = search needs
-
 returns-2 : tie.Need-returns-2
 unfolding table
 returns-2 c = table-entry (c .before .args .kind) (omega arith)
 
 pub entry-of-spec : {M : Type 1} → statement M
-entry-of-spec = tie.close (tie.spec returns mul-result array-read-result returns-2)
+entry-of-spec =
+    tie.close
+    (tie.spec
+    returns
+    (λ c. search needs) (λ c. search needs)
+    returns-2)

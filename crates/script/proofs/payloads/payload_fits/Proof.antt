@@ -6,17 +6,28 @@ use Rattle.script.specs.Payloads.Laws.{kind-unknown, kind-variable, kind
 use Rattle.script.proofs.payloads.payload_fits.Statement.{statement}
 use Rattle.script.proofs.payloads.payload_fits.Tie as tie
 
-entry-of-requires : tie.Need-entry-of-requires
-entry-of-requires c κs = search needs
-
 returns : tie.Need-returns
-returns c = sym (kind-unknown (c .before .before .args .length) (c .before .before .args .kind) (c .before .entry-of .result) (c .before .entry-of .ensures) (c .if1 .taken))
+returns c =
+    let args = c .before .before .args in
+    sym (kind-unknown (args .length) (args .kind) (c .before .entry-of .result) (c .before .entry-of .ensures) (c .if1 .taken))
 
 returns-2 : tie.Need-returns-2
-returns-2 c = sym (kind-variable (c .before .before .before .args .length) (c .before .before .before .args .kind) (c .before .before .entry-of .result) (c .before .before .entry-of .ensures) (c .if2 .taken))
+returns-2 c =
+    let args = c .before .before .before .args in
+    let entry-of = c .before .before .entry-of in
+    sym (kind-variable (args .length) (args .kind) (entry-of .result) (entry-of .ensures) (c .if2 .taken))
 
 returns-3 : tie.Need-returns-3
-returns-3 c = sym (kind-fixed (c .before .before .before .args .length) (c .before .before .before .args .kind) (c .before .before .entry-of .result) (c .before .before .entry-of .ensures) (c .before .if1 .left) (c .if2 .left))
+returns-3 c =
+    let args = c .before .before .before .args in
+    let entry-of = c .before .before .entry-of in
+    sym (kind-fixed (args .length) (args .kind) (entry-of .result) (entry-of .ensures) (c .before .if1 .left) (c .if2 .left))
 
 pub payload-fits-spec : {M : Type 1} → statement M
-payload-fits-spec = tie.close (tie.spec entry-of-requires returns returns-2 returns-3)
+payload-fits-spec =
+    tie.close
+    (tie.spec
+    (λ c κs. search needs)
+    returns
+    returns-2
+    returns-3)

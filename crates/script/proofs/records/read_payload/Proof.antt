@@ -17,7 +17,10 @@ u64-at-requires : tie.Need-u64-at-requires
 u64-at-requires c κs = omega (arith, c .before .before .before .pre .singleton (c .before .if1 .taken))
 
 returns : tie.Need-returns
-returns c = rw (c .before .before .if1 .taken, c .before .u32-at .ensures, c .u64-at .ensures) (sym (payload-singleton (c .before .before .before .before .args .bytes .now) (c .before .before .before .before .args .at) (c .before .before .before .before .args .next)))
+returns c =
+    let args = c .before .before .before .before .args in
+    rw (c .before .before .if1 .taken, c .before .u32-at .ensures, c .u64-at .ensures)
+    (sym (payload-singleton (args .bytes .now) (args .at) (args .next)))
 
 read-merge-requires : tie.Need-read-merge-requires
 read-merge-requires c κs = c .before .before .before .pre .merge (c .if2 .taken)
@@ -26,13 +29,19 @@ returns-2 : tie.Need-returns-2
 returns-2 c = rw (c .before .if2 .taken) (c .read-merge .ensures)
 
 u32-at-requires-2 : tie.Need-u32-at-requires-2
-u32-at-requires-2 c κs = c .before .before .before .before .pre .show (c .if3 .taken)
+u32-at-requires-2 c κs =
+    let pre = c .before .before .before .before .pre in
+    pre .show (c .if3 .taken)
 
 returns-3 : tie.Need-returns-3
-returns-3 c = rw (c .before .if3 .taken, c .u32-at2 .ensures) (sym (payload-show (c .before .before .before .before .before .args .bytes .now) (c .before .before .before .before .before .args .at) (c .before .before .before .before .before .args .next)))
+returns-3 c =
+    let args = c .before .before .before .before .before .args in
+    rw (c .before .if3 .taken, c .u32-at2 .ensures) (sym (payload-show (args .bytes .now) (args .at) (args .next)))
 
 returns-4 : tie.Need-returns-4
-returns-4 c = sym (payload-other (c .before .before .before .before .args .bytes .now) (c .before .before .before .before .args .at) (c .before .before .before .before .args .next) (c .before .before .before .before .args .kind) (c .before .before .if1 .left) (c .before .if2 .left) (c .if3 .left))
+returns-4 c =
+    let args = c .before .before .before .before .args in
+    sym (payload-other (args .bytes .now) (args .at) (args .next) (args .kind) (c .before .before .if1 .left) (c .before .if2 .left) (c .if3 .left))
 
 pub read-payload-spec : {M : Type 1} → statement M
 read-payload-spec =

@@ -27,13 +27,20 @@ add-if2 : tie.Need-add-if2 Inv-loop μ-loop
 add-if2 c = omega (arith, c .before .before .before .pre)
 
 shared-slice-read-if2 : tie.Need-shared-slice-read-if2 Inv-loop μ-loop
-shared-slice-read-if2 c = omega (arith, c .before .before .before .before .pre)
+shared-slice-read-if2 c =
+    let pre = c .before .before .before .before .pre in
+    omega (arith, pre)
 
 shared-slice-read-if2-2 : tie.Need-shared-slice-read-if2-2 Inv-loop μ-loop
-shared-slice-read-if2-2 c = omega (arith, c .before .before .before .before .before .pre)
+shared-slice-read-if2-2 c =
+    let pre = c .before .before .before .before .before .pre in
+    omega (arith, pre)
 
 returns-2 : tie.Need-returns-2 Inv-loop μ-loop
-returns-2 c = agree-not (c .before .before .before .before .before .before .args .answer .now) (c .before .before .before .before .before .before .args .out .now) (c .before .before .before .before .before .before .args .at) (c .before .before .before .before .before .before .args .wrote) (c .before .before .before .before .loop .i) (c .before .before .before .loop-test .taken) (c .if2 .taken)
+returns-2 c =
+    let args = c .before .before .before .before .before .before .args in
+    let loop = c .before .before .before .before .loop in
+    agree-not (args .answer .now) (args .out .now) (args .at) (args .wrote) (loop .i) (c .before .before .before .loop-test .taken) (c .if2 .taken)
 
 add-i : tie.Need-add-i Inv-loop μ-loop
 add-i c = omega arith
@@ -42,7 +49,14 @@ loop-less : tie.Need-loop-less Inv-loop μ-loop
 loop-less c = omega arith
 
 loop-again : tie.Need-loop-again Inv-loop μ-loop
-loop-again c = (omega arith, agree-more (c .before .before .before .before .before .before .args .answer .now) (c .before .before .before .before .before .before .args .out .now) (c .before .before .before .before .before .before .args .at) (c .before .before .before .before .before .before .args .wrote) (c .before .before .before .before .loop .i) (c .before .before .before .before .before .before .pre .0) (omega arith) (c .before .before .before .loop-test .taken) (c .if2 .left) (c .before .before .before .before .loop .inv .1))
+loop-again c =
+    let args = c .before .before .before .before .before .before .args in
+    let pre = c .before .before .before .before .before .before .pre in
+    let loop = c .before .before .before .before .loop in (
+      omega arith,
+      agree-more (args .answer .now) (args .out .now) (args .at) (args .wrote) (loop .i) (pre .0) (omega arith)
+          (c .before .before .before .loop-test .taken) (c .if2 .left) (loop .inv .1),
+    )
 
 returns-3 : tie.Need-returns-3 Inv-loop μ-loop
 returns-3 c = let all : c .before .loop .i ≡ c .before .before .before .args .wrote = omega arith in rw all at (c .before .loop .inv .1)

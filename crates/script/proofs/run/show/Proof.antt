@@ -7,65 +7,43 @@ use Rattle.script.specs.Answers.Laws.{show-refused, show-known, show-don
 use Rattle.script.proofs.run.show.Statement.{statement}
 use Rattle.script.proofs.run.show.Tie as tie
 
-admit-requires : tie.Need-admit-requires
-admit-requires c κs = search needs
-
-enum-known-admitted : tie.Need-enum-known-admitted
-enum-known-admitted c = search needs
-
-refusal-number-requires : tie.Need-refusal-number-requires
-refusal-number-requires c κs = search needs
-
-lay-number-requires : tie.Need-lay-number-requires
-lay-number-requires c κs = search needs
-
-same-length : tie.Need-same-length
-same-length c = search needs
-
-same-length-2 : tie.Need-same-length-2
-same-length-2 c = search needs
-
 returns : tie.Need-returns
 returns c =
-    let e : c .before .before .before .before .before .before .before .before .before .before .admit .result ≡ Refused (c .before .before .before .before .before .before .admitted .given .0 .0) = cc in
-    show-refused (c .before .before .before .before .before .before .before .before .before .before .before .before .before .before .before .args .store .now) (c .before .before .before .before .before .before .before .before .before .before .before .before .before .before .before .args .scratch .now) (c .before .before .before .before .before .before .before .before .before .before .admit .last .1 .0) (c .before .before .before .before .before .before .before .before .before .before .before .before .before .before .before .args .context .0) (c .before .before .before .before .before .before .before .before .before .before .admit .result) (c .before .before .before .before .before .before .before .before .before .before .admit .ensures) (c .before .before .before .before .before .before .before .before .before .before .before .before .before .before .before .args .out .now) _ _ (c .before .before .before .before .before .before .admitted .given .0 .0) _ e (c .before .before .before .refusal-number .ensures) (c .before .before .lay-number .ensures)
-
-enum-told : tie.Need-enum-told
-enum-told c = search needs
-
-clear-requires : tie.Need-clear-requires
-clear-requires c κs = search needs
-
-cast-lay-entries : tie.Need-cast-lay-entries
-cast-lay-entries c = search needs
+    let args = c .before .before .before .before .before .before .before .before .before .before .before .before .before .before .before .args in
+    let at-admit = c .before .before .before .before .before .before .before .before .before .before .admit in
+    let admitted = c .before .before .before .before .before .before .admitted in
+    let e : at-admit .result ≡ Refused (admitted .given .0 .0) = cc in
+    show-refused (args .store .now) (args .scratch .now) (at-admit .last .1 .0) (args .context .0) (at-admit .result) (at-admit .ensures)
+    (args .out .now) _ _ (admitted .given .0 .0) _ e (c .before .before .before .refusal-number .ensures) (c .before .before .lay-number .ensures)
 
 lay-entries-requires : tie.Need-lay-entries-requires
-lay-entries-requires c κs = (show-known (c .before .before .before .before .before .before .before .before .before .before .before .before .before .before .before .args .store .now) (c .before .before .before .before .before .before .before .before .before .before .before .before .before .before .before .args .scratch .now) (c .before .before .before .before .before .before .before .before .before .before .admit .last .1 .0) (c .before .before .before .before .before .before .before .before .before .before .before .before .before .before .before .args .context .0) (c .before .before .before .before .before .before .before .before .before .before .admit .result) (c .before .before .before .before .before .before .before .before .before .before .admit .ensures) (c .before .before .before .before .before .before .before .before .before .before .before .before .before .before .before .args .out .now) 0 (c .before .before .before .before .before .before .before .before .before .before .before .before .before .before .before .args .out .now) (c .before .before .before .before .before .before .enum-told .given .1), c .before .before .before .before .before .before .before .before .before .before .before .before .before .before .before .pre)
-
-same-length-3 : tie.Need-same-length-3
-same-length-3 c = search needs
-
-same-length-4 : tie.Need-same-length-4
-same-length-4 c = search needs
+lay-entries-requires c κs =
+    let args = c .before .before .before .before .before .before .before .before .before .before .before .before .before .before .before .args in
+    let pre = c .before .before .before .before .before .before .before .before .before .before .before .before .before .before .before .pre in
+    let at-admit = c .before .before .before .before .before .before .before .before .before .before .admit in
+    let enum-told = c .before .before .before .before .before .before .enum-told in (
+      show-known (args .store .now) (args .scratch .now) (at-admit .last .1 .0) (args .context .0) (at-admit .result) (at-admit .ensures)
+          (args .out .now) 0 (args .out .now) (enum-told .given .1),
+      pre,
+    )
 
 returns-2 : tie.Need-returns-2
-returns-2 c = show-done (c .before .before .before .before .before .before .before .before .before .before .before .before .before .before .before .before .before .before .args .store .now) (c .before .before .before .before .before .before .before .before .before .before .before .before .before .before .before .before .before .before .args .scratch .now) (c .before .before .before .before .before .before .before .before .before .before .before .before .before .admit .last .1 .0) (c .before .before .before .before .before .before .before .before .before .before .before .before .before .before .before .before .before .before .args .context .0) (c .before .before .before .before .before .before .before .before .before .before .before .before .before .admit .result) (c .before .before .before .before .before .before .before .before .before .before .before .before .before .admit .ensures) (c .before .before .before .before .before .before .before .before .before .before .before .before .before .before .before .before .before .before .args .out .now) _ _ (c .before .before .before .before .before .before .before .before .before .enum-told .given .1) _ (c .before .before .before .before .before .before .before .clear .ensures) (c .before .before .lay-entries .ensures)
+returns-2 c =
+    let args = c .before .before .before .before .before .before .before .before .before .before .before .before .before .before .before .before .before .before .args in
+    let at-admit = c .before .before .before .before .before .before .before .before .before .before .before .before .before .admit in
+    let enum-told = c .before .before .before .before .before .before .before .before .before .enum-told in
+    let clear = c .before .before .before .before .before .before .before .clear in
+    show-done (args .store .now) (args .scratch .now) (at-admit .last .1 .0) (args .context .0) (at-admit .result) (at-admit .ensures)
+    (args .out .now) _ _ (enum-told .given .1) _ (clear .ensures) (c .before .before .lay-entries .ensures)
 
 pub show-spec : {M : Type 1} → statement M
 show-spec =
     tie.close
     (tie.spec
-    admit-requires
-    enum-known-admitted
-    refusal-number-requires
-    lay-number-requires
-    same-length
-    same-length-2
+    (λ c κs. search needs) (λ c. search needs) (λ c κs. search needs) (λ c κs. search needs)
+    (λ c. search needs) (λ c. search needs)
     returns
-    enum-told
-    clear-requires
-    cast-lay-entries
+    (λ c. search needs) (λ c κs. search needs) (λ c. search needs)
     lay-entries-requires
-    same-length-3
-    same-length-4
+    (λ c. search needs) (λ c. search needs)
     returns-2)

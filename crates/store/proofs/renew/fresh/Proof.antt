@@ -8,17 +8,16 @@ use Rattle.store.proofs.renew.fresh.Tie as tie
 returns : tie.Need-returns
 returns c = fresh-refused (c .before .before .args .store .now) (c .if1 .taken)
 
-clear-requires : tie.Need-clear-requires
-clear-requires c κs = search needs
-
-slice-write-store : tie.Need-slice-write-store
-slice-write-store c = search needs
-
-same-length : tie.Need-same-length
-same-length c = search needs
-
 returns-2 : tie.Need-returns-2
-returns-2 c = rw (c .before .before .clear .ensures) (fresh-words (c .before .before .before .before .before .before .args .store .now) (c .before .before .before .before .if1 .left))
+returns-2 c =
+    let args = c .before .before .before .before .before .before .args in
+    let if1 = c .before .before .before .before .if1 in
+    rw (c .before .before .clear .ensures) (fresh-words (args .store .now) (if1 .left))
 
 pub fresh-spec : {M : Type 1} → statement M
-fresh-spec = tie.close (tie.spec returns clear-requires slice-write-store same-length returns-2)
+fresh-spec =
+    tie.close
+    (tie.spec
+    returns
+    (λ c κs. search needs) (λ c. search needs) (λ c. search needs)
+    returns-2)

@@ -4,12 +4,13 @@ use Rattle.words.specs.Hash.{hashFrom}
 use Rattle.words.proofs.hash.empty_hash.Statement.{statement}
 use Rattle.words.proofs.hash.empty_hash.Tie as tie
 
-mix-requires : tie.Need-mix-requires
-mix-requires c κs = search needs
-
 returns : tie.Need-returns
 unfolding hashFrom
 returns c = c .mix .ensures
 
 pub empty-hash-spec : {M : Type 1} → statement M
-empty-hash-spec = tie.close (tie.spec mix-requires returns)
+empty-hash-spec =
+    tie.close
+    (tie.spec
+    (λ c κs. search needs)
+    returns)

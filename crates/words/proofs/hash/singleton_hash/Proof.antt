@@ -6,18 +6,6 @@ use Rattle.words.specs.Hash.{hashFrom, mixed}
 use Rattle.words.proofs.hash.singleton_hash.Statement.{statement}
 use Rattle.words.proofs.hash.singleton_hash.Tie as tie
 
-mix-requires : tie.Need-mix-requires
-mix-requires c κs = search needs
-
-mix-requires-2 : tie.Need-mix-requires-2
-mix-requires-2 c κs = search needs
-
-cast-mix : tie.Need-cast-mix
-cast-mix c = search needs
-
-mix-requires-3 : tie.Need-mix-requires-3
-mix-requires-3 c κs = search needs
-
 returns : tie.Need-returns
 unfolding hashFrom
 returns c =
@@ -26,4 +14,8 @@ returns c =
     ∙ ap (λ (h : ℕ). mixed h (a .state .0)) (c .before .mix2 .ensures ∙ ap (λ (h : ℕ). mixed h (a .parent-hash)) (c .before .before .mix .ensures))
 
 pub singleton-hash-spec : {M : Type 1} → statement M
-singleton-hash-spec = tie.close (tie.spec mix-requires mix-requires-2 cast-mix mix-requires-3 returns)
+singleton-hash-spec =
+    tie.close
+    (tie.spec
+    (λ c κs. search needs) (λ c κs. search needs) (λ c. search needs) (λ c κs. search needs)
+    returns)

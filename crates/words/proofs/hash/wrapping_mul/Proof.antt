@@ -12,14 +12,8 @@ mul-crossed c = record { fits = halves-fit _ _ (omega arith) (omega arith) }
 mul-crossed-2 : tie.Need-mul-crossed-2
 mul-crossed-2 c = record { fits = halves-fit _ _ (omega arith) (omega arith) }
 
-add-crossed : tie.Need-add-crossed
-add-crossed c = search needs
-
 mul-wrapping-add-u64 : tie.Need-mul-wrapping-add-u64
 mul-wrapping-add-u64 c = record { fits = halves-fit _ _ (omega arith) (omega arith) }
-
-wrapping-add-u64-requires : tie.Need-wrapping-add-u64-requires
-wrapping-add-u64-requires c κs = search needs
 
 returns : tie.Need-returns
 returns c = c .wrapping-add-u64 .ensures ∙ by-halves (c .before .args .x) (c .before .args .y)
@@ -30,7 +24,7 @@ wrapping-mul-spec =
     (tie.spec
     mul-crossed
     mul-crossed-2
-    add-crossed
+    (λ c. search needs)
     mul-wrapping-add-u64
-    wrapping-add-u64-requires
+    (λ c κs. search needs)
     returns)

@@ -5,14 +5,14 @@ use Rattle.words.specs.Lent.Laws.{clearedRange-all}
 use Rattle.words.proofs.lent.clear.Statement.{statement}
 use Rattle.words.proofs.lent.clear.Tie as tie
 
-clear-range-requires : tie.Need-clear-range-requires
-clear-range-requires c κs = search needs
-
-same-length : tie.Need-same-length
-same-length c = search needs
-
 returns : tie.Need-returns
-returns c = c .before .before .clear-range .ensures ∙ clearedRange-all (c .before .before .before .before .before .args .words .now)
+returns c =
+    let args = c .before .before .before .before .before .args in
+    c .before .before .clear-range .ensures ∙ clearedRange-all (args .words .now)
 
 pub clear-spec : {M : Type 1} → statement M
-clear-spec = tie.close (tie.spec clear-range-requires same-length returns)
+clear-spec =
+    tie.close
+    (tie.spec
+    (λ c κs. search needs) (λ c. search needs)
+    returns)

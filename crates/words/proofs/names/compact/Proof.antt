@@ -9,9 +9,6 @@ use Rattle.words.proofs.names.compact.Tie as tie
 returns : tie.Need-returns
 returns c = sym (compacted-mark _ (c .if1 .taken))
 
-cast-t4 : tie.Need-cast-t4
-cast-t4 c = search needs
-
 returns-2 : tie.Need-returns-2
 returns-2 c = sym (compacted-state _ (omega arith))
 
@@ -19,4 +16,10 @@ returns-3 : tie.Need-returns-3
 returns-3 c = sym (compacted-out _ (c .before .if1 .left) (omega arith))
 
 pub compact-spec : {M : Type 1} → statement M
-compact-spec = tie.close (tie.spec returns cast-t4 returns-2 returns-3)
+compact-spec =
+    tie.close
+    (tie.spec
+    returns
+    (λ c. search needs)
+    returns-2
+    returns-3)

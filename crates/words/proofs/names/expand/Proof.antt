@@ -8,11 +8,13 @@ use Rattle.words.proofs.names.expand.Tie as tie
 returns : tie.Need-returns
 returns c = sym (expanded-mark _ (c .if1 .taken))
 
-cast-t4 : tie.Need-cast-t4
-cast-t4 c = search needs
-
 returns-2 : tie.Need-returns-2
 returns-2 c = sym (expanded-state _ (c .if1 .left))
 
 pub expand-spec : {M : Type 1} → statement M
-expand-spec = tie.close (tie.spec returns cast-t4 returns-2)
+expand-spec =
+    tie.close
+    (tie.spec
+    returns
+    (λ c. search needs)
+    returns-2)

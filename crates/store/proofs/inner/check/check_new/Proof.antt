@@ -8,31 +8,39 @@ use Rattle.store.proofs.inner.check.check_new.Statement.{statement}
 use Rattle.store.proofs.inner.check.check_new.Tie as tie
 
 entries-hash-requires : tie.Need-entries-hash-requires
-entries-hash-requires c κs = (fresh-stacked (c .before .before .before .args .store .now) (c .before .before .before .args .scratch .now) (c .before .before .before .args .context) (c .before .before .before .args .n) (c .before .before .before .pre), c .before .before .before .pre .proper .some)
+entries-hash-requires c κs =
+    let args = c .before .before .before .args in
+    let pre = c .before .before .before .pre in
+    (fresh-stacked (args .store .now) (args .scratch .now) (args .context) (args .n) pre, pre .proper .some)
 
 find-interned-requires : tie.Need-find-interned-requires
-find-interned-requires c κs = fresh-sought (c .before .before .before .before .before .args .store .now) (c .before .before .before .before .before .args .scratch .now) (c .before .before .before .before .before .args .context) (c .before .before .before .before .before .args .n) (c .before .before .before .before .before .pre) (c .before .entries-hash .result) (c .before .entries-hash .ensures)
-
-enum-told : tie.Need-enum-told
-enum-told c = search needs
-
-enum-told-2 : tie.Need-enum-told-2
-enum-told-2 c = search needs
+find-interned-requires c κs =
+    let args = c .before .before .before .before .before .args in
+    let pre = c .before .before .before .before .before .pre in
+    fresh-sought (args .store .now) (args .scratch .now) (args .context) (args .n) pre (c .before .entries-hash .result)
+    (c .before .entries-hash .ensures)
 
 add-to-index-requires : tie.Need-add-to-index-requires
-add-to-index-requires c κs = (c .before .before .before .before .before .before .before .before .before .pre .stacked .sized, c .before .before .before .before .before .before .before .before .before .pre .few)
-
-same-length : tie.Need-same-length
-same-length c = search needs
+add-to-index-requires c κs =
+    let pre = c .before .before .before .before .before .before .before .before .before .pre in
+    (pre .stacked .sized, pre .few)
 
 returns : tie.Need-returns
-returns c = (sym (c .before .before .before .before .before .before .find-interned .ensures) ∙ ap foundOf (c .before .before .before .before .enum-told2 .given .1), rw (c .before .before .add-to-index .ensures) (fresh-indexed (c .before .before .before .before .before .before .before .before .before .before .before .before .args .store .now) (c .before .before .before .before .before .before .before .before .before .before .before .before .args .scratch .now) (c .before .before .before .before .before .before .before .before .before .before .before .before .args .context) (c .before .before .before .before .before .before .before .before .before .before .before .before .args .n) (c .before .before .before .before .before .before .before .before .before .before .before .before .pre) (c .before .before .before .before .before .before .before .before .entries-hash .result) (c .before .before .before .before .before .before .before .before .entries-hash .ensures)))
-
-same-length-2 : tie.Need-same-length-2
-same-length-2 c = search needs
+returns c =
+    let args = c .before .before .before .before .before .before .before .before .before .before .before .before .args in
+    let pre = c .before .before .before .before .before .before .before .before .before .before .before .before .pre in
+    let entries-hash = c .before .before .before .before .before .before .before .before .entries-hash in
+    let find-interned = c .before .before .before .before .before .before .find-interned in
+    let enum-told2 = c .before .before .before .before .enum-told2 in (
+      sym (find-interned .ensures) ∙ ap foundOf (enum-told2 .given .1),
+      rw (c .before .before .add-to-index .ensures)
+          (fresh-indexed (args .store .now) (args .scratch .now) (args .context) (args .n) pre (entries-hash .result) (entries-hash .ensures)),
+    )
 
 returns-2 : tie.Need-returns-2
-returns-2 c = (λ e. at-nowhere _ (sym (ap foundOf (c .enum-told .given .1)) ∙ c .before .before .find-interned .ensures ∙ e), c .before .before .before .before .before .before .before .before .pre .stacked .sized)
+returns-2 c =
+    let pre = c .before .before .before .before .before .before .before .before .pre in
+    (λ e. at-nowhere _ (sym (ap foundOf (c .enum-told .given .1)) ∙ c .before .before .find-interned .ensures ∙ e), pre .stacked .sized)
 
 pub check-new-spec : {M : Type 1} → statement M
 check-new-spec =
@@ -40,10 +48,9 @@ check-new-spec =
     (tie.spec
     entries-hash-requires
     find-interned-requires
-    enum-told
-    enum-told-2
+    (λ c. search needs) (λ c. search needs)
     add-to-index-requires
-    same-length
+    (λ c. search needs)
     returns
-    same-length-2
+    (λ c. search needs)
     returns-2)

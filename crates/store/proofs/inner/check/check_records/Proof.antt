@@ -16,43 +16,48 @@ abbrev μ-loop : tie.MeasureT-loop
 μ-loop store scratch₀ count pool₀ context₀ scratch pool context = count - context
 
 loop-holds : tie.Need-loop-holds Inv-loop μ-loop
-loop-holds c = (c .before .before .pre .0, c .before .before .pre .1)
+loop-holds c =
+    let pre = c .before .before .pre in
+    (pre .0, pre .1)
 
 check-record-requires : tie.Need-check-record-requires Inv-loop μ-loop
-check-record-requires c κs = (c .before .before .loop .inv .0, omega (arith, c .before .before .before .before .before .pre .2, c .before .loop-test .taken))
-
-enum-known-judged : tie.Need-enum-known-judged Inv-loop μ-loop
-enum-known-judged c = search needs
-
-enum-told : tie.Need-enum-told Inv-loop μ-loop
-enum-told c = search needs
-
-same-length : tie.Need-same-length Inv-loop μ-loop
-same-length c = search needs
+check-record-requires c κs =
+    let pre = c .before .before .before .before .before .pre in
+    (c .before .before .loop .inv .0, omega (arith, pre .2, c .before .loop-test .taken))
 
 returns : tie.Need-returns Inv-loop μ-loop
 returns c =
-    let e : c .before .before .before .before .check-record .result ≡ Bad = c .enum-told .given .1 in
-    let bad = rw e at (c .before .before .before .before .check-record .ensures) in
-    (λ all. bad .0 (all (c .before .before .before .before .before .before .before .loop .context) (c .before .before .before .before .before .before .before .loop .inv .0 .some) (c .before .before .before .before .before .before .loop-test .taken)), bad .1)
+    let loop = c .before .before .before .before .before .before .before .loop in
+    let loop-test = c .before .before .before .before .before .before .loop-test in
+    let check-record = c .before .before .before .before .check-record in
+    let e : check-record .result ≡ Bad = c .enum-told .given .1 in
+    let bad = rw e at (check-record .ensures) in
+    (λ all. bad .0 (all (loop .context) (loop .inv .0 .some) (loop-test .taken)), bad .1)
 
 add-context : tie.Need-add-context Inv-loop μ-loop
-add-context c = omega (arith, c .before .before .before .before .before .before .before .before .before .before .before .pre .2, c .before .before .before .before .before .before .before .loop-test .taken)
+add-context c =
+    let pre = c .before .before .before .before .before .before .before .before .before .before .before .pre in
+    let loop-test = c .before .before .before .before .before .before .before .loop-test in
+    omega (arith, pre .2, loop-test .taken)
 
 loop-less : tie.Need-loop-less Inv-loop μ-loop
-loop-less c = omega (arith, c .before .before .before .before .before .before .before .loop-test .taken)
+loop-less c =
+    let loop-test = c .before .before .before .before .before .before .before .loop-test in
+    omega (arith, loop-test .taken)
 
 loop-again : tie.Need-loop-again Inv-loop μ-loop
 loop-again c =
-    let e : c .before .before .before .before .before .check-record .result ≡ Good (c .before .judged .given .0 .0) = cc in
-    let good = rw e at (c .before .before .before .before .before .check-record .ensures) in
-    rw (add-one (c .before .before .before .before .before .before .before .before .loop .context)) (good, c .before .before .before .before .before .before .before .loop-test .taken)
-
-same-length-2 : tie.Need-same-length-2 Inv-loop μ-loop
-same-length-2 c = search needs
+    let loop = c .before .before .before .before .before .before .before .before .loop in
+    let loop-test = c .before .before .before .before .before .before .before .loop-test in
+    let check-record = c .before .before .before .before .before .check-record in
+    let e : check-record .result ≡ Good (c .before .judged .given .0 .0) = cc in
+    let good = rw e at (check-record .ensures) in
+    rw (add-one (loop .context)) (good, loop-test .taken)
 
 returns-2 : tie.Need-returns-2 Inv-loop μ-loop
-returns-2 c = let all : c .before .loop .context ≡ c .before .before .before .before .args .count = omega (arith, c .before .loop .inv .1, c .loop-test .left) in rw all at (c .before .loop .inv .0)
+returns-2 c =
+    let args = c .before .before .before .before .args in
+    let all : c .before .loop .context ≡ args .count = omega (arith, c .before .loop .inv .1, c .loop-test .left) in rw all at (c .before .loop .inv .0)
 
 pub check-records-spec : {M : Type 1} → statement M
 check-records-spec =
@@ -62,12 +67,10 @@ check-records-spec =
     μ-loop
     loop-holds
     check-record-requires
-    enum-known-judged
-    enum-told
-    same-length
+    (λ c. search needs) (λ c. search needs) (λ c. search needs)
     returns
     add-context
     loop-less
     loop-again
-    same-length-2
+    (λ c. search needs)
     returns-2)

@@ -6,53 +6,48 @@ use Rattle.store.specs.Verdicts.{root-passed}
 use Rattle.store.proofs.inner.check.check_root.Statement.{statement}
 use Rattle.store.proofs.inner.check.check_root.Tie as tie
 
-kind-of-requires : tie.Need-kind-of-requires
-kind-of-requires c κs = search needs
-
 returns : tie.Need-returns
-returns c = (λ r. c .if1 .taken (c .before .kind-of .ensures ∙ r .0), c .before .before .before .before .pre .1)
-
-first-of-requires : tie.Need-first-of-requires
-first-of-requires c κs = search needs
+returns c =
+    let pre = c .before .before .before .before .pre in
+    (λ r. c .if1 .taken (c .before .kind-of .ensures ∙ r .0), pre .1)
 
 returns-2 : tie.Need-returns-2
-returns-2 c = (λ r. c .if2 .taken (c .before .first-of .ensures ∙ r .1), c .before .before .before .before .before .before .pre .1)
-
-second-of-requires : tie.Need-second-of-requires
-second-of-requires c κs = search needs
+returns-2 c =
+    let pre = c .before .before .before .before .before .before .pre in
+    (λ r. c .if2 .taken (c .before .first-of .ensures ∙ r .1), pre .1)
 
 returns-3 : tie.Need-returns-3
-returns-3 c = (λ r. c .if3 .taken (c .before .second-of .ensures ∙ r .2), c .before .before .before .before .before .before .before .before .pre .1)
-
-clear-heads-requires : tie.Need-clear-heads-requires
-clear-heads-requires c κs = search needs
-
-empty-hash-requires : tie.Need-empty-hash-requires
-empty-hash-requires c κs = search needs
-
-add-to-index-requires : tie.Need-add-to-index-requires
-add-to-index-requires c κs = search needs
-
-same-length : tie.Need-same-length
-same-length c = search needs
+returns-3 c =
+    let pre = c .before .before .before .before .before .before .before .before .pre in
+    (λ r. c .if3 .taken (c .before .second-of .ensures ∙ r .2), pre .1)
 
 returns-4 : tie.Need-returns-4
 returns-4 c =
-    let r : Root (c .before .before .before .before .before .before .before .before .before .before .before .before .before .before .before .before .before .args .store .now) = (sym (c .before .before .before .before .before .before .before .before .before .before .before .before .before .before .kind-of .ensures) ∙ c .before .before .before .before .before .before .before .before .before .before .before .before .before .if1 .left, sym (c .before .before .before .before .before .before .before .before .before .before .before .before .first-of .ensures) ∙ c .before .before .before .before .before .before .before .before .before .before .before .if2 .left, sym (c .before .before .before .before .before .before .before .before .before .before .second-of .ensures) ∙ c .before .before .before .before .before .before .before .before .before .if3 .left) in
-    (r, rw (c .before .before .add-to-index .ensures, c .before .before .before .before .before .before .before .clear-heads .ensures) (root-passed (c .before .before .before .before .before .before .before .before .before .before .before .before .before .before .before .before .before .args .store .now) (c .before .before .before .before .before .before .before .before .before .before .before .before .before .before .before .before .before .args .scratch .now) (c .before .before .before .empty-hash .result) (c .before .before .before .before .before .before .before .before .before .before .before .before .before .before .before .before .before .pre .0) (c .before .before .before .before .before .before .before .before .before .before .before .before .before .before .before .before .before .pre .1) r (c .before .before .before .empty-hash .ensures)))
+    let args = c .before .before .before .before .before .before .before .before .before .before .before .before .before .before .before .before .before .args in
+    let pre = c .before .before .before .before .before .before .before .before .before .before .before .before .before .before .before .before .before .pre in
+    let kind-of = c .before .before .before .before .before .before .before .before .before .before .before .before .before .before .kind-of in
+    let if1 = c .before .before .before .before .before .before .before .before .before .before .before .before .before .if1 in
+    let first-of = c .before .before .before .before .before .before .before .before .before .before .before .before .first-of in
+    let if2 = c .before .before .before .before .before .before .before .before .before .before .before .if2 in
+    let second-of = c .before .before .before .before .before .before .before .before .before .before .second-of in
+    let if3 = c .before .before .before .before .before .before .before .before .before .if3 in
+    let clear-heads = c .before .before .before .before .before .before .before .clear-heads in
+    let empty-hash = c .before .before .before .empty-hash in
+    let r : Root (args .store .now) = (sym (kind-of .ensures) ∙ if1 .left, sym (first-of .ensures) ∙ if2 .left, sym (second-of .ensures) ∙ if3 .left) in (
+      r,
+      rw (c .before .before .add-to-index .ensures, clear-heads .ensures)
+          (root-passed (args .store .now) (args .scratch .now) (empty-hash .result) (pre .0) (pre .1) r (empty-hash .ensures)),
+    )
 
 pub check-root-spec : {M : Type 1} → statement M
 check-root-spec =
     tie.close
     (tie.spec
-    kind-of-requires
+    (λ c κs. search needs)
     returns
-    first-of-requires
+    (λ c κs. search needs)
     returns-2
-    second-of-requires
+    (λ c κs. search needs)
     returns-3
-    clear-heads-requires
-    empty-hash-requires
-    add-to-index-requires
-    same-length
+    (λ c κs. search needs) (λ c κs. search needs) (λ c κs. search needs) (λ c. search needs)
     returns-4)

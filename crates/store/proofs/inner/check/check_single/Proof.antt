@@ -6,37 +6,74 @@ use Rattle.store.proofs.inner.check.check_single.Statement.{statement}
 use Rattle.store.proofs.inner.check.check_single.Tie as tie
 
 first-of-requires : tie.Need-first-of-requires
-first-of-requires c κs = (c .before .before .pre .0 .records .sized, c .before .before .pre .1)
+first-of-requires c κs =
+    let pre = c .before .before .pre in
+    (pre .0 .records .sized, pre .1)
 
 second-of-requires : tie.Need-second-of-requires
-second-of-requires c κs = (c .before .before .before .pre .0 .records .sized, c .before .before .before .pre .1)
-
-cast-if1 : tie.Need-cast-if1
-cast-if1 c = search needs
+second-of-requires c κs =
+    let pre = c .before .before .before .pre in
+    (pre .0 .records .sized, pre .1)
 
 returns : tie.Need-returns
-returns c = (single-not-older (c .before .before .before .before .before .args .store .now) (c .before .before .before .before .before .args .scratch .now) (c .before .before .before .before .before .args .context) (c .before .before .before .before .before .args .pool) (c .before .before .before .before .before .pre .0) (c .before .before .before .before .before .pre .1) (c .before .before .before .before .before .pre .2) (c .before .before .first-of .result) (c .before .second-of .result) (c .before .before .first-of .ensures) (c .before .second-of .ensures) (c .if1 .taken), c .before .before .before .before .before .pre .0 .index .sized)
+returns c =
+    let args = c .before .before .before .before .before .args in
+    let pre = c .before .before .before .before .before .pre in
+    let first-of = c .before .before .first-of in (
+      single-not-older (args .store .now) (args .scratch .now) (args .context) (args .pool) (pre .0) (pre .1) (pre .2) (first-of .result)
+          (c .before .second-of .result) (first-of .ensures) (c .before .second-of .ensures) (c .if1 .taken),
+      pre .0 .index .sized,
+    )
 
 returns-2 : tie.Need-returns-2
-returns-2 c = (single-stop (c .before .before .before .before .before .before .args .store .now) (c .before .before .before .before .before .before .args .scratch .now) (c .before .before .before .before .before .before .args .context) (c .before .before .before .before .before .before .args .pool) (c .before .before .before .before .before .before .pre .0) (c .before .before .before .before .before .before .pre .1) (c .before .before .before .before .before .before .pre .2) (c .before .before .before .first-of .result) (c .before .before .second-of .result) (c .before .before .before .first-of .ensures) (c .before .before .second-of .ensures) (c .if2 .taken), c .before .before .before .before .before .before .pre .0 .index .sized)
+returns-2 c =
+    let args = c .before .before .before .before .before .before .args in
+    let pre = c .before .before .before .before .before .before .pre in
+    let first-of = c .before .before .before .first-of in
+    let second-of = c .before .before .second-of in (
+      single-stop (args .store .now) (args .scratch .now) (args .context) (args .pool) (pre .0) (pre .1) (pre .2) (first-of .result)
+          (second-of .result) (first-of .ensures) (second-of .ensures) (c .if2 .taken),
+      pre .0 .index .sized,
+    )
 
 put-entry-requires : tie.Need-put-entry-requires
-put-entry-requires c κs = (c .before .before .before .before .before .before .before .pre .0 .index .sized, omega arith)
+put-entry-requires c κs =
+    let pre = c .before .before .before .before .before .before .before .pre in
+    (pre .0 .index .sized, omega arith)
 
 check-new-requires : tie.Need-check-new-requires
-check-new-requires c κs = read-fresh (c .before .before .before .before .before .before .before .before .before .before .before .args .store .now) (c .before .before .before .before .before .before .before .before .before .before .before .args .scratch .now) (c .before .before .before .before .before .before .before .before .before .before .before .args .context) (c .before .before .before .before .before .before .before .before .before .before .before .args .pool) (c .before .before .before .before .before .before .before .before .before .before .before .pre .0) (c .before .before .before .before .before .before .before .before .before .before .before .pre .1) (c .before .before .before .before .before .before .before .before .before .before .before .pre .2) (c .before .before .before .before .before .before .before .before .first-of .result) (c .before .before .before .before .before .before .before .second-of .result) (c .before .before .before .before .before .before .before .before .first-of .ensures) (c .before .before .before .before .before .before .before .second-of .ensures) (omega arith) (omega arith) (c .before .before .before .put-entry .last .0) (c .before .before .before .put-entry .ensures)
-
-same-length : tie.Need-same-length
-same-length c = search needs
+check-new-requires c κs =
+    let args = c .before .before .before .before .before .before .before .before .before .before .before .args in
+    let pre = c .before .before .before .before .before .before .before .before .before .before .before .pre in
+    let first-of = c .before .before .before .before .before .before .before .before .first-of in
+    let second-of = c .before .before .before .before .before .before .before .second-of in
+    let put-entry = c .before .before .before .put-entry in
+    read-fresh (args .store .now) (args .scratch .now) (args .context) (args .pool) (pre .0) (pre .1) (pre .2) (first-of .result)
+    (second-of .result) (first-of .ensures) (second-of .ensures) (omega arith) (omega arith) (put-entry .last .0) (put-entry .ensures)
 
 returns-3 : tie.Need-returns-3
-returns-3 c = read-good (c .before .before .before .before .before .before .before .before .before .before .before .before .before .before .before .args .store .now) (c .before .before .before .before .before .before .before .before .before .before .before .before .before .before .before .args .scratch .now) (c .before .before .before .before .before .before .before .before .before .before .before .before .before .before .before .args .context) (c .before .before .before .before .before .before .before .before .before .before .before .before .before .before .before .args .pool) (c .before .before .before .before .before .before .before .before .before .before .before .before .before .before .before .pre .0) (c .before .before .before .before .before .before .before .before .before .before .before .before .before .before .before .pre .1) (c .before .before .before .before .before .before .before .before .before .before .before .before .before .before .before .pre .2) (c .before .before .before .before .before .before .before .before .before .before .before .before .first-of .result) (c .before .before .before .before .before .before .before .before .before .before .before .second-of .result) (c .before .before .before .before .before .before .before .before .before .before .before .before .first-of .ensures) (c .before .before .before .before .before .before .before .before .before .before .before .second-of .ensures) (omega arith) (omega arith) (c .before .before .before .before .before .before .before .put-entry .last .0) (c .before .before .before .before .before .before .before .put-entry .ensures) (c .before .before .before .check-new .last .1 .0) (rw (c .if3 .taken) at (c .before .before .before .check-new .ensures))
-
-same-length-2 : tie.Need-same-length-2
-same-length-2 c = search needs
+returns-3 c =
+    let args = c .before .before .before .before .before .before .before .before .before .before .before .before .before .before .before .args in
+    let pre = c .before .before .before .before .before .before .before .before .before .before .before .before .before .before .before .pre in
+    let first-of = c .before .before .before .before .before .before .before .before .before .before .before .before .first-of in
+    let second-of = c .before .before .before .before .before .before .before .before .before .before .before .second-of in
+    let put-entry = c .before .before .before .before .before .before .before .put-entry in
+    let check-new = c .before .before .before .check-new in
+    read-good (args .store .now) (args .scratch .now) (args .context) (args .pool) (pre .0) (pre .1) (pre .2) (first-of .result)
+    (second-of .result) (first-of .ensures) (second-of .ensures) (omega arith) (omega arith) (put-entry .last .0) (put-entry .ensures)
+    (check-new .last .1 .0) (rw (c .if3 .taken) at (check-new .ensures))
 
 returns-4 : tie.Need-returns-4
-returns-4 c = read-bad (c .before .before .before .before .before .before .before .before .before .before .before .before .before .before .before .args .store .now) (c .before .before .before .before .before .before .before .before .before .before .before .before .before .before .before .args .scratch .now) (c .before .before .before .before .before .before .before .before .before .before .before .before .before .before .before .args .context) (c .before .before .before .before .before .before .before .before .before .before .before .before .before .before .before .args .pool) (c .before .before .before .before .before .before .before .before .before .before .before .before .before .before .before .pre .0) (c .before .before .before .before .before .before .before .before .before .before .before .before .before .before .before .pre .1) (c .before .before .before .before .before .before .before .before .before .before .before .before .before .before .before .pre .2) (c .before .before .before .before .before .before .before .before .before .before .before .before .first-of .result) (c .before .before .before .before .before .before .before .before .before .before .before .second-of .result) (c .before .before .before .before .before .before .before .before .before .before .before .before .first-of .ensures) (c .before .before .before .before .before .before .before .before .before .before .before .second-of .ensures) (omega arith) (omega arith) (c .before .before .before .before .before .before .before .put-entry .last .0) (c .before .before .before .before .before .before .before .put-entry .ensures) (c .before .before .before .check-new .last .1 .0) (rw (c .if3 .left) at (c .before .before .before .check-new .ensures))
+returns-4 c =
+    let args = c .before .before .before .before .before .before .before .before .before .before .before .before .before .before .before .args in
+    let pre = c .before .before .before .before .before .before .before .before .before .before .before .before .before .before .before .pre in
+    let first-of = c .before .before .before .before .before .before .before .before .before .before .before .before .first-of in
+    let second-of = c .before .before .before .before .before .before .before .before .before .before .before .second-of in
+    let put-entry = c .before .before .before .before .before .before .before .put-entry in
+    let check-new = c .before .before .before .check-new in
+    read-bad (args .store .now) (args .scratch .now) (args .context) (args .pool) (pre .0) (pre .1) (pre .2) (first-of .result)
+    (second-of .result) (first-of .ensures) (second-of .ensures) (omega arith) (omega arith) (put-entry .last .0) (put-entry .ensures)
+    (check-new .last .1 .0) (rw (c .if3 .left) at (check-new .ensures))
 
 pub check-single-spec : {M : Type 1} → statement M
 check-single-spec =
@@ -44,12 +81,12 @@ check-single-spec =
     (tie.spec
     first-of-requires
     second-of-requires
-    cast-if1
+    (λ c. search needs)
     returns
     returns-2
     put-entry-requires
     check-new-requires
-    same-length
+    (λ c. search needs)
     returns-3
-    same-length-2
+    (λ c. search needs)
     returns-4)

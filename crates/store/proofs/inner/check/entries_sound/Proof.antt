@@ -19,20 +19,15 @@ abbrev μ-loop : tie.MeasureT-loop
 loop-holds : tie.Need-loop-holds Inv-loop μ-loop
 loop-holds c = (omega arith, λ j h. absurd (omega arith))
 
-add-entry-sound : tie.Need-add-entry-sound Inv-loop μ-loop
-add-entry-sound c = search needs
-
 entry-sound-requires : tie.Need-entry-sound-requires Inv-loop μ-loop
 entry-sound-requires c κs = (omega arith, omega arith)
 
 returns : tie.Need-returns Inv-loop μ-loop
-returns c = λ v. (rw (not-true (c .before .entry-sound .result) (c .if1 .taken)) at (c .before .entry-sound .ensures)) (entry-of (state (c .before .before .before .before .before .args .store .now)) (parent (c .before .before .before .before .before .args .store .now)) (c .before .before .before .before .before .args .from) (c .before .before .before .before .before .args .n) (c .before .before .before .before .before .args .context) v (c .before .before .before .loop .i) (omega arith))
-
-add-i : tie.Need-add-i Inv-loop μ-loop
-add-i c = search needs
-
-loop-less : tie.Need-loop-less Inv-loop μ-loop
-loop-less c = search needs
+returns c =
+    let args = c .before .before .before .before .before .args in
+    λ v. (rw (not-true (c .before .entry-sound .result) (c .if1 .taken)) at (c .before .entry-sound .ensures))
+    (entry-of (state (args .store .now)) (parent (args .store .now)) (args .from) (args .n) (args .context) v
+    (c .before .before .before .loop .i) (omega arith))
 
 loop-again : tie.Need-loop-again Inv-loop μ-loop
 loop-again c = (omega arith, below-more _ _ (c .before .before .before .loop .inv .1) (rw (not-false (c .before .entry-sound .result) (c .if1 .left)) at (c .before .entry-sound .ensures)))
@@ -40,7 +35,8 @@ loop-again c = (omega arith, below-more _ _ (c .before .before .before .loop .in
 returns-2 : tie.Need-returns-2 Inv-loop μ-loop
 unfolding state
 returns-2 c =
-    entries-of (state (c .before .before .before .args .store .now)) (parent (c .before .before .before .args .store .now)) (c .before .before .before .args .from) (c .before .before .before .args .n) (c .before .before .before .args .context)
+    let args = c .before .before .before .args in
+    entries-of (state (args .store .now)) (parent (args .store .now)) (args .from) (args .n) (args .context)
     (λ j. omega (arith, c .before .before .shared-slice-known .given (3586 + j)))
     (λ j h. c .before .loop .inv .1 j (omega arith))
 
@@ -51,10 +47,9 @@ entries-sound-spec =
     Inv-loop
     μ-loop
     loop-holds
-    add-entry-sound
+    (λ c. search needs)
     entry-sound-requires
     returns
-    add-i
-    loop-less
+    (λ c. search needs) (λ c. search needs)
     loop-again
     returns-2)

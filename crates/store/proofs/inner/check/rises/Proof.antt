@@ -13,22 +13,27 @@ use Rattle.store.proofs.inner.check.rises.Tie as tie
 returns : tie.Need-returns
 returns c = λ i a e. absurd (omega arith)
 
-sub-pool-state : tie.Need-sub-pool-state
-sub-pool-state c = search needs
-
-pool-state-requires : tie.Need-pool-state-requires
-pool-state-requires c κs = search needs
-
-pool-state-requires-2 : tie.Need-pool-state-requires-2
-pool-state-requires-2 c κs = search needs
-
 returns-2 : tie.Need-returns-2
 returns-2 c =
-    let one : suc (c .before .before .before .before .args .place - 1) ≡ c .before .before .before .before .args .place = omega arith in
-    tells-if (Above (state (c .before .before .before .before .args .store .now)) (c .before .before .before .before .args .from) (c .before .before .before .before .args .place)) _
-    (λ t i a e. let j : i ≡ c .before .before .before .before .args .place - 1 = omega arith in rw j (rw (c .before .pool-state .ensures, c .pool-state2 .ensures) at (ltb-true (c .before .pool-state .result) (c .pool-state2 .result) t)))
-    (λ f h. absurd (omega (arith, c .before .pool-state .ensures, c .pool-state2 .ensures, ltb-false (c .before .pool-state .result) (c .pool-state2 .result) f, h (c .before .before .before .before .args .place - 1) (omega arith) one)))
+    let args = c .before .before .before .before .args in
+    let one : suc (args .place - 1) ≡ args .place = omega arith in
+    tells-if (Above (state (args .store .now)) (args .from) (args .place)) _
+    (λ t i a e. let j : i ≡ args .place - 1 = omega arith in rw j
+    (rw (c .before .pool-state .ensures, c .pool-state2 .ensures) at (ltb-true (c .before .pool-state .result) (c .pool-state2 .result) t)))
+    (λ f h. absurd
+    (omega (
+      arith,
+      c .before .pool-state .ensures,
+      c .pool-state2 .ensures,
+      ltb-false (c .before .pool-state .result)
+          (c .pool-state2 .result) f,
+      h (args .place - 1) (omega arith) one,
+    )))
 
 pub rises-spec : {M : Type 1} → statement M
 rises-spec =
-    tie.close (tie.spec returns sub-pool-state pool-state-requires pool-state-requires-2 returns-2)
+    tie.close
+    (tie.spec
+    returns
+    (λ c. search needs) (λ c κs. search needs) (λ c κs. search needs)
+    returns-2)
