@@ -15,6 +15,7 @@ pub mod Last
 pub mod Sides
 pub mod Cycle
 pub mod Now
+pub mod Given
 pub mod Inner
 pub mod ArrayPair
 pub mod ArrayEntry

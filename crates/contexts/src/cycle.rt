@@ -14,8 +14,9 @@ ghost use Prim.Native.Nat.{_<_};
 ghost use Rattle.arena.specs.Place.{mergeS};
 ghost use Rattle.layout.specs.Layout.{kind};
 ghost use Rattle.layout.specs.Decode.{storeOf};
+ghost use Rattle.contexts.specs.Given.{ArrayAndEntry, TwoArrays, TwoEntries, Unsettled};
 ghost use Rattle.contexts.specs.Merging.{Mergeable, Outcome};
-ghost use Rattle.contexts.specs.Sides.{Apart, NoArray, Swallows};
+ghost use Rattle.contexts.specs.Sides.{Swallows};
 
 // Is the merge by wildcard, with a side that is the empty stack alone?
 fn swallows(left: ContextId, right: ContextId, wildcard: bool) -> bool
@@ -69,7 +70,7 @@ fn merge_uncached(
     wildcard: bool,
     top: usize,
 ) -> Made
-    requires { ⌜ Mergeable wildcard (now store) (now scratch) (left .0) (right .0) top × Apart wildcard (left .0) (right .0) ⌝ }
+    requires { ⌜ Unsettled wildcard (now store) (now scratch) (left .0) (right .0) top ⌝ }
     ensures { λ r. ⌜ Outcome wildcard (now (store .entry)) (now (scratch .entry)) top (mergeS wildcard (storeOf (now (store .entry))) (left .0) (right .0)) r (now (store .exit)) (now (scratch .exit)) ⌝ }
 {
     let left_kind = index::kind_of(store, left.0 as usize);
@@ -95,7 +96,7 @@ fn merge_two_entries(
     wildcard: bool,
     top: usize,
 ) -> Made
-    requires { ⌜ Mergeable wildcard (now store) (now scratch) (left .0) (right .0) top × Apart wildcard (left .0) (right .0) × NoArray (now store) (left .0) × NoArray (now store) (right .0) ⌝ }
+    requires { ⌜ TwoEntries wildcard (now store) (now scratch) (left .0) (right .0) top ⌝ }
     ensures { λ r. ⌜ Outcome wildcard (now (store .entry)) (now (scratch .entry)) top (mergeS wildcard (storeOf (now (store .entry))) (left .0) (right .0)) r (now (store .exit)) (now (scratch .exit)) ⌝ }
 {
     let left_at = left.0 as usize;
@@ -136,7 +137,7 @@ fn merge_array_with_entry(
     wildcard: bool,
     top: usize,
 ) -> Made
-    requires { ⌜ Mergeable wildcard (now store) (now scratch) (array .0) (single .0) top × Apart wildcard (array .0) (single .0) × (kind (now store) (array .0) ≡ 2) × NoArray (now store) (single .0) ⌝ }
+    requires { ⌜ ArrayAndEntry wildcard (now store) (now scratch) (array .0) (single .0) top ⌝ }
     ensures { λ r. ⌜ Outcome wildcard (now (store .entry)) (now (scratch .entry)) top (mergeS wildcard (storeOf (now (store .entry))) (array .0) (single .0)) r (now (store .exit)) (now (scratch .exit)) ⌝ }
 {
     let array_at = array.0 as usize;
@@ -182,7 +183,7 @@ fn merge_arrays(
     wildcard: bool,
     top: usize,
 ) -> Made
-    requires { ⌜ Mergeable wildcard (now store) (now scratch) (left .0) (right .0) top × Apart wildcard (left .0) (right .0) × (kind (now store) (left .0) ≡ 2) × (kind (now store) (right .0) ≡ 2) ⌝ }
+    requires { ⌜ TwoArrays wildcard (now store) (now scratch) (left .0) (right .0) top ⌝ }
     ensures { λ r. ⌜ Outcome wildcard (now (store .entry)) (now (scratch .entry)) top (mergeS wildcard (storeOf (now (store .entry))) (left .0) (right .0)) r (now (store .exit)) (now (scratch .exit)) ⌝ }
 {
     let left_at = left.0 as usize;
