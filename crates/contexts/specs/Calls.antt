@@ -12,9 +12,6 @@ use Rattle.layout.specs.Decode.{storeOf}
 use Rattle.store.specs.Calls.{Reply, refused, context, Left, kept, ifKnown, grown}
 use Rattle.store.specs.Admit.{checked}
 
-abbrev pub left : Reply → List ℕ → List ℕ → Left
-left r w z = record { reply = r; store = w; scratch = z }
-
 -- the empty mark answers 0; 5: a return state from 4294967295 to 18446744073709551614
 unfoldable pub ifState : List ℕ → ℕ → Left → Left
 ifState w r go =

@@ -21,7 +21,8 @@ use Rattle.store.specs.declared.inner.admit.Admitted.{Admitted}
 use Rattle.store.specs.declared.inner.admit.Admitted.the-variants.{Ready as ready, Refused}
 use Rattle.store.specs.Calls.{refused, context, Left, ifKnown, grown}
 use Rattle.contexts.specs.Live.{Live, live-count, live-used, ready-live}
-use Rattle.contexts.specs.Calls.{left, mergeCall}
+use Rattle.store.specs.Calls.{left}
+use Rattle.contexts.specs.Calls.{mergeCall}
 use Rattle.contexts.specs.Outcomes.{grown-fits, grown-full}
 use Rattle.contexts.specs.Ends.{ends-most}
 use Rattle.contexts.specs.Merging.{Mergeable, Merged, Stuck}

@@ -28,7 +28,8 @@ use Rattle.store.specs.declared.inner.admit.Admitted.{Admitted}
 use Rattle.store.specs.declared.inner.admit.Admitted.the-variants.{Ready as ready, Refused}
 use Rattle.store.specs.Calls.{refused, context, Left, zeros, grown}
 use Rattle.contexts.specs.Live.{Live, Pushed, live-count, ready-live}
-use Rattle.contexts.specs.Calls.{left, ifState, placedSingle, singletonCall}
+use Rattle.store.specs.Calls.{left}
+use Rattle.contexts.specs.Calls.{ifState, placedSingle, singletonCall}
 use Rattle.contexts.specs.Interned.{Interns}
 use Rattle.contexts.specs.Replies.{madeReply}
 use Rattle.contexts.specs.declared.intern.Made.{Made}

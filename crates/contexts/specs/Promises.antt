@@ -28,7 +28,8 @@ use Rattle.encoding.specs.Decide.{sound, sound-true, fits, fits-true}
 use Rattle.store.specs.Calls.{Reply, refused, context, Left, determined, kept, ifLengths, ifSound, ifKnown, grown}
 use Rattle.encoding.specs.Places.{below?}
 use Rattle.store.specs.Admit.{checked, known-goes, unknown}
-use Rattle.contexts.specs.Calls.{left, singletonCall, mergeCall}
+use Rattle.store.specs.Calls.{left}
+use Rattle.contexts.specs.Calls.{singletonCall, mergeCall}
 
 -- ---- what an accepted call has passed
 

@@ -13,7 +13,8 @@ ghost use Rattle.arena.specs.Place.{mergeS};
 ghost use Rattle.layout.specs.Decode.{storeOf};
 ghost use Rattle.layout.specs.Layout.{count};
 ghost use Rattle.store.specs.Calls.{grown};
-ghost use Rattle.contexts.specs.Calls.{left as leaves, mergeCall};
+ghost use Rattle.store.specs.Calls.{left as leaves};
+ghost use Rattle.contexts.specs.Calls.{mergeCall};
 ghost use Rattle.contexts.specs.Live.{Live};
 ghost use Rattle.contexts.specs.Replies.{numbered};
 

@@ -11,7 +11,8 @@ use words::ReturnState;
 ghost use mathlib.Core.Path.{_≡_};
 ghost use Prim.Native.Nat.{_<_};
 ghost use Rattle.layout.specs.Layout.{count, stop};
-ghost use Rattle.contexts.specs.Calls.{left, placedSingle, singletonCall};
+ghost use Rattle.store.specs.Calls.{left};
+ghost use Rattle.contexts.specs.Calls.{placedSingle, singletonCall};
 ghost use Rattle.contexts.specs.Live.{Live};
 ghost use Rattle.contexts.specs.Replies.{madeReply, numbered};
 

@@ -5,7 +5,7 @@ use Prim.Native.Nat.{ℕ}
 use borrow.Author.Tests.{eq-eqb, ne-eqb}
 use Rattle.stacks.specs.Compare.{two}
 use Rattle.store.specs.Calls.{Reply, Left, freshCall, determined}
-use Rattle.contexts.specs.Calls.{left}
+use Rattle.store.specs.Calls.{left}
 use Rattle.ffi.specs.Doors.{unless, freshIn, answerOf}
 
 -- `said` reads a struct back, and `of` is the struct for a reply; l is the call's definition at what came in

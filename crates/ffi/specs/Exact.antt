@@ -6,7 +6,7 @@ use Rattle.words.specs.declared.refusals.Refusal.{Refusal}
 use Rattle.words.specs.declared.refusals.Refusal.the-variants.{WrongLength, UnsoundStore, UnsoundSet, TooManyStops, ReadOnlySet, UnknownContext, StateOutOfRange, FullSet, FullStore, MalformedRecord}
 use Rattle.words.specs.Refusals.{number}
 use Rattle.store.specs.Calls.{Reply, refused, Left}
-use Rattle.contexts.specs.Calls.{left}
+use Rattle.store.specs.Calls.{left}
 use Rattle.ffi.specs.declared.answers.Answer.{Answer}
 use Rattle.ffi.specs.declared.answers.EntryAnswer.{EntryAnswer}
 use Rattle.ffi.specs.Doors.{unless, answer, answerOf, entryAnswer, entryOf}

@@ -7,7 +7,7 @@ use crate::answers::state_answer;
 use crate::answers::truth_answer;
 use words::ContextId;
 ghost use mathlib.Core.Path.{_≡_};
-ghost use Rattle.queries.specs.Answers.{left};
+ghost use Rattle.store.specs.Calls.{left};
 ghost use Rattle.queries.specs.Queries.{hasEmptyPathCall, isEmptyCall, lenCall, parentCall, returnStateCall};
 ghost use Rattle.ffi.specs.Doors.{answerOf, countIn, entryOf, parentIn, stateIn, truthIn};
 

@@ -6,7 +6,8 @@ use words::ContextId;
 use words::ReturnState;
 ghost use mathlib.Core.Path.{_≡_};
 ghost use Rattle.store.specs.Calls.{freshCall};
-ghost use Rattle.contexts.specs.Calls.{left as leaves, mergeCall, singletonCall};
+ghost use Rattle.store.specs.Calls.{left as leaves};
+ghost use Rattle.contexts.specs.Calls.{mergeCall, singletonCall};
 ghost use Rattle.ffi.specs.Doors.{answerOf, contextIn, freshIn};
 
 // Makes the lent words a fresh store.

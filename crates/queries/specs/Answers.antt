@@ -31,7 +31,3 @@ abbrev pub parentFound : ParentFound → Reply
 parentFound (Parent p) = context (p .0)
 parentFound noParent = none
 parentFound (notParent f) = refused (number f)
-
--- the reply, and every word of the store and of the scratch afterwards
-abbrev pub left : Reply → List ℕ → List ℕ → Left
-left r w z = record { reply = r; store = w; scratch = z }

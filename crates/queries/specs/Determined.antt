@@ -16,7 +16,8 @@ use Rattle.queries.specs.declared.answers.StateFound.the-variants.{State
 use Rattle.queries.specs.declared.answers.ParentFound.{ParentFound}
 use Rattle.queries.specs.declared.answers.ParentFound.the-variants.{Parent, Nothing as noParent, Refused as notParent}
 use Rattle.queries.specs.Queries.{lenCall, isEmptyCall, hasEmptyPathCall, returnStateCall, parentCall}
-use Rattle.queries.specs.Answers.{counted, answered, stateFound, parentFound, left}
+use Rattle.store.specs.Calls.{left}
+use Rattle.queries.specs.Answers.{counted, answered, stateFound, parentFound}
 
 -- ---- a number tells its refusal
 

@@ -21,16 +21,11 @@ use Rattle.layout.specs.Decode.{nodeIn, storeOf, store-length, store-node, node
 use Rattle.layout.specs.Sound.{SoundWords}
 use Rattle.encoding.specs.Reads.{kind?, kind-zero, single-reads, array-entries, array-fits}
 use Rattle.encoding.specs.Decoded.{store-sound}
+use Rattle.store.specs.Asks.{Known}
 use Rattle.store.specs.Calls.{context, none}
 use Rattle.store.specs.Calls.{state as shows}
 use Rattle.queries.specs.Queries.{stateAt, parentAt, parentOf}
 use Rattle.queries.specs.Listed.{state-past, parent-past, state-listing, parent-listing, empty-listing}
-
--- the words are sound, and c is one of their contexts
-pub record Known (w : List ℕ) (c : ℕ) : Type 0 where
-  pub sized : length w ≡ storeWords
-  pub sound : SoundWords w
-  pub below : c < count w
 
 module _ {w : List ℕ} {c : ℕ} (k : Known w c) where
   pub few : c < 512

@@ -4,5 +4,4 @@ pub mod Answers
 pub mod Sentences
 pub mod Listed
 pub mod Known
-pub mod Asks
 pub mod Determined

@@ -9,22 +9,20 @@ use Rattle.stacks.specs.Merge.{isMark}
 use Rattle.arena.specs.Store.{Node, end, dollar, push, Store, tree, nodeAt}
 use Rattle.arena.specs.Kinds.{size}
 use Rattle.layout.specs.Decode.{storeOf}
-use Rattle.store.specs.Calls.{Reply, context, count, state, holds, none, Left, kept, ifKnown}
-use Rattle.store.specs.Admit.{checked}
+use Rattle.store.specs.Calls.{Reply, context, count, state, holds, none, Left}
+use Rattle.store.specs.Asks.{asked}
 
--- w is the store's words, z the scratch's, c the context's number. Checks 2, 1 and 4; then the reply r: the store stays as it was, the scratch is 0
-unfoldable pub asked : List ℕ → List ℕ → ℕ → Reply → Left
-asked w z c r = checked w z (ifKnown w c (kept r w))
+-- w is the store's words, z the scratch's, c the context's number, i the entry's index
 
 -- ---- of a context: how many entries it has, is it exactly the set of the empty stack, is the empty stack in its set
 
-unfoldable pub lenCall : List ℕ → List ℕ → ℕ → Left
+abbrev pub lenCall : List ℕ → List ℕ → ℕ → Left
 lenCall w z c = asked w z c (count (size (nodeAt (storeOf w) c)))
 
-unfoldable pub isEmptyCall : List ℕ → List ℕ → ℕ → Left
+abbrev pub isEmptyCall : List ℕ → List ℕ → ℕ → Left
 isEmptyCall w z c = asked w z c (holds (isMark (tree (storeOf w) c)))
 
-unfoldable pub hasEmptyPathCall : List ℕ → List ℕ → ℕ → Left
+abbrev pub hasEmptyPathCall : List ℕ → List ℕ → ℕ → Left
 hasEmptyPathCall w z c = asked w z c (holds (mem (tree (storeOf w) c) []))
 
 -- ---- of its entry at an index, from 0 on
@@ -49,8 +47,8 @@ parentAt (push r p n) (suc i) = parentAt n i
 unfoldable pub parentOf : Store → ℕ → ℕ → Reply
 parentOf s c i = elim (eqb c 0) [ true ↦ none | false ↦ parentAt (nodeAt s c) i ]
 
-unfoldable pub returnStateCall : List ℕ → List ℕ → ℕ → ℕ → Left
+abbrev pub returnStateCall : List ℕ → List ℕ → ℕ → ℕ → Left
 returnStateCall w z c i = asked w z c (stateAt (nodeAt (storeOf w) c) i)
 
-unfoldable pub parentCall : List ℕ → List ℕ → ℕ → ℕ → Left
+abbrev pub parentCall : List ℕ → List ℕ → ℕ → ℕ → Left
 parentCall w z c i = asked w z c (parentOf (storeOf w) c i)

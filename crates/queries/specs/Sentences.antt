@@ -15,7 +15,8 @@ use Rattle.layout.specs.Sound.{SoundWords}
 use Rattle.store.specs.Calls.{context, state, none}
 use Rattle.queries.specs.Queries.{stateAt, parentOf}
 use Rattle.queries.specs.Listed.{state-past}
-use Rattle.queries.specs.Known.{Known, size-other, state-many, state-zero, parent-zero, parent-many, parent-at-past}
+use Rattle.store.specs.Asks.{Known}
+use Rattle.queries.specs.Known.{size-other, state-many, state-zero, parent-zero, parent-many, parent-at-past}
 
 module _ (w : List ℕ) (l : length w ≡ storeWords) (v : SoundWords w) where
   root : Known w 0

@@ -1,10 +1,11 @@
 // Which context is the set with only the empty stack.
 use crate::answers::Answered;
-use crate::ask::ask;
 use store::inner::admit::Admitted;
+use store::inner::ask::ask;
 use words::ContextId;
 ghost use mathlib.Core.Path.{_≡_};
-ghost use Rattle.queries.specs.Answers.{answered, left};
+ghost use Rattle.store.specs.Calls.{left};
+ghost use Rattle.queries.specs.Answers.{answered};
 ghost use Rattle.queries.specs.Queries.{isEmptyCall};
 
 // Is a context exactly the set of the empty stack?

@@ -1,7 +1,6 @@
 // The entry queries: what a context of a lent store holds. Each is lent the scratch too, since it
 // checks the store itself, and leaves it zero.
 mod answers;
-mod ask;
 mod empties;
 mod parents;
 mod paths;

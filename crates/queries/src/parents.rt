@@ -1,13 +1,14 @@
 // The parent of a context's entry at an index.
 use crate::answers::ParentFound;
-use crate::ask::ask;
 use store::inner::admit::Admitted;
+use store::inner::ask::ask;
 use words::ContextId;
 ghost use mathlib.Core.Path.{_≡_};
 ghost use Rattle.layout.specs.Layout.{kind};
 ghost use Rattle.layout.specs.Decode.{storeOf};
-ghost use Rattle.queries.specs.Answers.{left, parentFound};
-ghost use Rattle.queries.specs.Known.{Known};
+ghost use Rattle.store.specs.Calls.{left};
+ghost use Rattle.queries.specs.Answers.{parentFound};
+ghost use Rattle.store.specs.Asks.{Known};
 ghost use Rattle.queries.specs.Queries.{parentCall, parentOf};
 
 // Of an array: the entry's parent, 0 for a `$`.

@@ -1,7 +1,7 @@
 // Which contexts have the empty stack in their set.
 use crate::answers::Answered;
-use crate::ask::ask;
 use store::inner::admit::Admitted;
+use store::inner::ask::ask;
 use words::COMPACT_EMPTY_RETURN_STATE;
 use words::ContextId;
 ghost use mathlib.Core.Path.{_≡_};
@@ -9,8 +9,9 @@ ghost use mathlib.Core.List.{[]};
 ghost use Rattle.stacks.specs.Forest.{mem};
 ghost use Rattle.arena.specs.Store.{tree};
 ghost use Rattle.layout.specs.Decode.{storeOf};
-ghost use Rattle.queries.specs.Answers.{answered, left};
-ghost use Rattle.queries.specs.Known.{Known};
+ghost use Rattle.store.specs.Calls.{left};
+ghost use Rattle.queries.specs.Answers.{answered};
+ghost use Rattle.store.specs.Asks.{Known};
 ghost use Rattle.queries.specs.Queries.{hasEmptyPathCall};
 
 // Is the last entry a `$`? States rise, so no other can be.

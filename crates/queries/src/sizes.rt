@@ -1,14 +1,15 @@
 // How many entries a context has.
 use crate::answers::Counted;
-use crate::ask::ask;
 use store::inner::admit::Admitted;
+use store::inner::ask::ask;
 use words::ContextId;
 ghost use mathlib.Core.Path.{_≡_};
 ghost use Rattle.arena.specs.Store.{nodeAt};
 ghost use Rattle.arena.specs.Kinds.{size};
 ghost use Rattle.layout.specs.Decode.{storeOf};
-ghost use Rattle.queries.specs.Answers.{counted, left};
-ghost use Rattle.queries.specs.Known.{Known};
+ghost use Rattle.store.specs.Calls.{left};
+ghost use Rattle.queries.specs.Answers.{counted};
+ghost use Rattle.store.specs.Asks.{Known};
 ghost use Rattle.queries.specs.Queries.{lenCall};
 
 // An array has as many as its length says, any other record one.

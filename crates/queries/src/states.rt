@@ -1,7 +1,7 @@
 // The return state of a context's entry at an index.
 use crate::answers::StateFound;
-use crate::ask::ask;
 use store::inner::admit::Admitted;
+use store::inner::ask::ask;
 use words::CompactState;
 use words::ContextId;
 use words::EMPTY_RETURN_STATE;
@@ -10,8 +10,9 @@ ghost use mathlib.Core.Path.{_≡_};
 ghost use Rattle.arena.specs.Store.{nodeAt};
 ghost use Rattle.layout.specs.Layout.{kind};
 ghost use Rattle.layout.specs.Decode.{storeOf};
-ghost use Rattle.queries.specs.Answers.{left, stateFound};
-ghost use Rattle.queries.specs.Known.{Known};
+ghost use Rattle.store.specs.Calls.{left};
+ghost use Rattle.queries.specs.Answers.{stateFound};
+ghost use Rattle.store.specs.Asks.{Known};
 ghost use Rattle.queries.specs.Queries.{returnStateCall, stateAt};
 
 // Of an array: the entry's state, as the border shows it.

@@ -15,6 +15,7 @@ use Rattle.layout.specs.Encode.{putPool, fill, putRecord, putCounts, putNode, w
 use Rattle.encoding.specs.Decide.{sameWords, rises, hasEntry, isNowhere, soundStore, nodeBelow, storeBelow, fits, goodStore, sound}
 use Rattle.store.specs.Calls.{zeros, ifLengths, ifSound, ifKnown, grown}
 use Rattle.store.specs.Admit.{checked}
+use Rattle.store.specs.Asks.{asked}
 use Rattle.contexts.specs.Calls.{ifState, placedSingle, singletonCall, mergeCall}
 use Rattle.script.specs.Bytes.{u16At, u32At, u64At}
 use Rattle.script.specs.Payloads.{payloads, payloadOf, accepts}
@@ -54,5 +55,5 @@ pub example : scriptReplies script ≡
     ∷ 67 ∷ 32 ∷ 50 ∷ 10
     ∷ 69 ∷ 32 ∷ 50 ∷ 32 ∷ 52 ∷ 50 ∷ 62 ∷ 48 ∷ 32 ∷ 36 ∷ 10
     ∷ 84 ∷ 32 ∷ 51 ∷ 32 ∷ 50 ∷ 10 ∷ []
-unfolding script isMark wild mergeE mergeT same find tree treeOf nodeAt listed intern placeE place mergeS size kindOf pool room blank count used kind first second parent state listing nodeFrom nodeIn storeIn putPool fill putRecord putCounts putNode written wordsOf sameWords rises hasEntry isNowhere soundStore nodeBelow storeBelow fits goodStore sound zeros ifLengths ifSound ifKnown grown checked ifState placedSingle singletonCall mergeCall u16At u32At u64At payloads payloadOf accepts payloadAt recordAt readAt digits decimal contextLine refusalLine entriesBytes entriesLine endLine lineOf callOf readingStep stepOf repliesFrom scriptReplies
+unfolding script isMark wild mergeE mergeT same find tree treeOf nodeAt listed intern placeE place mergeS size kindOf pool room blank count used kind first second parent state listing nodeFrom nodeIn storeIn putPool fill putRecord putCounts putNode written wordsOf sameWords rises hasEntry isNowhere soundStore nodeBelow storeBelow fits goodStore sound zeros ifLengths ifSound ifKnown grown checked asked ifState placedSingle singletonCall mergeCall u16At u32At u64At payloads payloadOf accepts payloadAt recordAt readAt digits decimal contextLine refusalLine entriesBytes entriesLine endLine lineOf callOf readingStep stepOf repliesFrom scriptReplies
 example = refl

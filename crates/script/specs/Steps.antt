@@ -8,8 +8,8 @@ use lib.ListN.{length}
 use Rattle.arena.specs.Store.{dollar, nodeAt}
 use Rattle.layout.specs.Decode.{storeOf}
 use Rattle.layout.specs.Encode.{wordsOf}
-use Rattle.store.specs.Calls.{Reply, refused, done, context, count, state, holds, none, Left, zeros, kept, ifKnown}
-use Rattle.store.specs.Admit.{checked}
+use Rattle.store.specs.Calls.{Reply, refused, done, context, count, state, holds, none, Left, zeros}
+use Rattle.store.specs.Asks.{asked}
 use Rattle.contexts.specs.Calls.{singletonCall, mergeCall}
 use Rattle.script.specs.Format.{Record, singleton, merge, show, Reading, found, ended, malformed, readAt}
 use Rattle.script.specs.Lines.{contextLine, refusalLine, entriesLine, endLine}
@@ -41,7 +41,7 @@ printed e x = record { reply = lineOf e (x .reply); store = x .store; scratch = 
 unfoldable pub callOf : List ℕ → List ℕ → Record → Printed
 callOf w z (singleton p r) = printed [] (singletonCall w z p r)
 callOf w z (merge a b m) = printed [] (mergeCall w z a b m)
-callOf w z (show c) = printed (entriesLine (nodeAt (storeOf w) c)) (checked w z (ifKnown w c (kept done w)))
+callOf w z (show c) = printed (entriesLine (nodeAt (storeOf w) c)) (asked w z c done)
 
 -- where a script goes on: at a place, or nowhere, since it is over
 pub data After : Type 0 where

@@ -9,7 +9,8 @@ ghost use Prim.Native.Nat.{_+_, _≤_};
 ghost use lib.ListN.{length};
 ghost use Rattle.arena.specs.Store.{nodeAt};
 ghost use Rattle.layout.specs.Decode.{storeOf};
-ghost use Rattle.script.specs.Entries.{Known, PoolAt, entryBytes, poolNode};
+ghost use Rattle.store.specs.Asks.{Known};
+ghost use Rattle.script.specs.Entries.{PoolAt, entryBytes, poolNode};
 ghost use Rattle.script.specs.Laid.{Wrote};
 ghost use Rattle.script.specs.Lines.{entriesBytes, entriesLine, spaced};
 

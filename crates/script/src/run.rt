@@ -6,7 +6,7 @@ use crate::records::Record;
 use crate::records::Step;
 use crate::records::decode;
 use store::inner::admit::Admitted;
-use store::inner::admit::admit;
+use store::inner::ask::ask;
 use words::ContextId;
 ghost use mathlib.Core.Path.{_≡_};
 ghost use Prim.Native.Nat.{_≤_};
@@ -29,11 +29,10 @@ fn show(store: &[u32], scratch: &mut [u32], context: ContextId, out: &mut [u8]) 
     requires { ⌜ length (now out) ≡ 40000 ⌝ }
     ensures { λ r. ⌜ Answered (now (out .entry)) (callOf (now (store .entry)) (now (scratch .entry)) (showing (context .0))) r (now (out .exit)) (now (store .entry)) (now (scratch .exit)) ⌝ }
 {
-    let admitted = admit(store, scratch, context);
-    if let Admitted::Refused(refusal) = admitted {
+    let asked = ask(store, scratch, context);
+    if let Admitted::Refused(refusal) = asked {
         return lay_number(out, b'R', words::refusal_number(refusal));
     }
-    words::clear(scratch);
     lay_entries(out, store, context.0 as usize)
 }
 

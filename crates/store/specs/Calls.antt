@@ -27,6 +27,9 @@ pub record Left : Type 0 where
   pub store : List ℕ
   pub scratch : List ℕ
 
+abbrev pub left : Reply → List ℕ → List ℕ → Left
+left r w z = record { reply = r; store = w; scratch = z }
+
 -- the scratch as a call that was not refused 2 leaves it
 unfoldable pub zeros : List ℕ
 zeros = blank scratchWords

@@ -4,5 +4,6 @@ pub mod Fresh
 pub mod Verdicts
 pub mod Calls
 pub mod Admit
+pub mod Asks
 pub mod Renewed
 pub mod FreshWords

@@ -10,12 +10,12 @@ use Rattle.words.specs.declared.refusals.Refusal.{Refusal}
 use Rattle.arena.specs.Store.{nodeAt}
 use Rattle.layout.specs.Layout.{count}
 use Rattle.layout.specs.Decode.{storeOf}
-use Rattle.store.specs.Calls.{refused, done, Left, kept, ifKnown}
-use Rattle.store.specs.Check.{Ready}
-use Rattle.store.specs.Admit.{checked, Admits, cleared}
+use Rattle.store.specs.Calls.{refused, done, Left}
+use Rattle.store.specs.Asks.{Asks}
 use Rattle.store.specs.declared.inner.admit.Admitted.{Admitted}
 use Rattle.store.specs.declared.inner.admit.Admitted.the-variants.{Ready as ready, Refused}
-use Rattle.contexts.specs.Calls.{left, singletonCall, mergeCall}
+use Rattle.store.specs.Calls.{left}
+use Rattle.contexts.specs.Calls.{singletonCall, mergeCall}
 use Rattle.contexts.specs.Replies.{numbered}
 use Rattle.contexts.specs.declared.single.Numbered.{Numbered}
 use Rattle.script.specs.declared.run.Ran.the-variants.{Next, Over}
@@ -24,7 +24,6 @@ use Rattle.script.specs.Format.{Record as Call}
 use Rattle.script.specs.Laid.{laid, Wrote}
 use Rattle.script.specs.Laid.Laws.{laid-none, wrote-none}
 use Rattle.script.specs.Lines.{numberLine, refusalLine, entriesLine}
-use Rattle.script.specs.Entries.{Known}
 use Rattle.script.specs.Steps.{mostBytes, lineOf, Printed, printed, callOf, stays, readingStep, stepOf, Stepped, goes}
 use Rattle.script.specs.Steps.Laws.{step-forward}
 use Rattle.script.specs.Answers.{Behind, behind, laidOut, Answered}
@@ -37,22 +36,14 @@ answered-call b x a r u w z e v = rw (← e) (record { wrote = v; store = refl; 
 
 -- ---- the entries of a context
 
-module _ (w z y : List ℕ) (c : ℕ) (a : Admitted) (v : Admits w z c a y) (b : List ℕ) (r : ℕ) (u : List ℕ) where
-  pub show-refused : (f : Refusal) (n : ℕ) → a ≡ Refused f → n ≡ number f → Wrote b 0 (numberLine 82 n) r u → Answered b (callOf w z (show c)) r u w y
+module _ {w z : List ℕ} {c : ℕ} {a : Admitted} {y : List ℕ} (v : Asks w z c a y) (b : List ℕ) (r : ℕ) (u : List ℕ) where
+  pub show-refused : (f : Refusal) → a ≡ Refused f → (n : ℕ) → n ≡ number f → Wrote b 0 (numberLine 82 n) r u → Answered b (callOf w z (show c)) r u w y
   unfolding callOf lineOf refusalLine
-  show-refused f n e q p =
-      let k : checked w z (ifKnown w c (kept done w)) ≡ left (refused (number f)) w y = (rw e at v) (kept done w) in
-      rw k (record { wrote = rw q at p; store = refl; scratch = refl })
+  show-refused f e n q p = rw (← v .refuses f e done) (record { wrote = rw q at p; store = refl; scratch = refl })
 
-  module _ (e : a ≡ ready) where
-    pub show-known : Known w c
-    show-known = let o = rw e at v in record { sized = o .0 .sized; sound = o .0 .sound; known = o .1 }
-
-    pub show-done : (t : List ℕ) → t ≡ replicate (length y) 0 → Wrote b 0 (entriesLine (nodeAt (storeOf w) c)) r u → Answered b (callOf w z (show c)) r u w t
-    unfolding callOf lineOf
-    show-done t q p =
-        let k : checked w z (ifKnown w c (kept done w)) ≡ kept done w = (rw e at v) .2 (kept done w) in
-        rw k (record { wrote = p; store = refl; scratch = q ∙ cleared y ((rw e at v) .0 .index .sized) })
+  pub show-done : a ≡ ready → Wrote b 0 (entriesLine (nodeAt (storeOf w) c)) r u → Answered b (callOf w z (show c)) r u w y
+  unfolding callOf lineOf
+  show-done e p = rw (← v .replies e done) (record { wrote = p; store = refl; scratch = refl })
 
 -- ---- a step
 

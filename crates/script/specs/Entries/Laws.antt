@@ -15,7 +15,8 @@ use Rattle.encoding.specs.Reads.{kind-most, single-reads, array-entries, array-
 use Rattle.script.specs.Decimal.{decimal}
 use Rattle.script.specs.Decimal.Laws.{length-decimal}
 use Rattle.script.specs.Lines.{spaced, entriesBytes, entriesLine}
-use Rattle.script.specs.Entries.{entryBytes, poolNode, PoolAt, Known}
+use Rattle.store.specs.Asks.{Known}
+use Rattle.script.specs.Entries.{entryBytes, poolNode, PoolAt}
 
 -- a 32-bit number has ten digits at most
 pub word-digits : (n : ℕ) → n < 4294967296 → length (decimal n) ≤ 10
@@ -116,13 +117,13 @@ module _ (w : List ℕ) (from n : ℕ) (v : PoolAt w from n) where
 
 module _ (w : List ℕ) (c : ℕ) (v : Known w c) where
   pub known-few : c < 512
-  known-few = omega (arith, v .known, v .sound .counted .1)
+  known-few = omega (arith, v .below, v .sound .counted .1)
 
   known-node : nodeAt (storeOf w) c ≡ nodeIn w c
-  known-node = store-node w (count w) c (v .known)
+  known-node = store-node w (count w) c (v .below)
 
   pub known-kind : (kind w c ≡ 0 → ⊥) → (kind w c ≡ 1 → ⊥) → kind w c ≡ 2
-  known-kind a b = omega (arith, kind-most w (v .sound) c (v .known))
+  known-kind a b = omega (arith, kind-most w (v .sound) c (v .below))
 
   pub line-zero : kind w c ≡ 0 → 69 ∷ spaced 1 ++ entryBytes stop 0 ++ 10 ∷ [] ≡ entriesLine (nodeAt (storeOf w) c)
   unfolding entriesLine entriesBytes size
@@ -131,7 +132,7 @@ module _ (w : List ℕ) (c : ℕ) (v : Known w c) where
   pub line-one : kind w c ≡ 1 → 69 ∷ spaced 1 ++ entryBytes (second w c) (first w c) ++ 10 ∷ [] ≡ entriesLine (nodeAt (storeOf w) c)
   unfolding entriesLine entriesBytes size
   line-one e =
-      let n : second w c ≡ stop → ⊥ = λ q. omega (arith, single-reads w (v .sound) c (v .known) e .1) in
+      let n : second w c ≡ stop → ⊥ = λ q. omega (arith, single-reads w (v .sound) c (v .below) e .1) in
       ap (λ (l : List ℕ). 69 ∷ spaced 1 ++ l ++ 10 ∷ []) (entry-more (second w c) (first w c) n ∙ sym (append-nil (spaced (second w c) ++ 62 ∷ decimal (first w c))))
       ∙ sym (ap entriesLine (known-node ∙ node-one w c e))
 
@@ -139,13 +140,13 @@ module _ (w : List ℕ) (c : ℕ) (v : Known w c) where
     pub known-pool : PoolAt w (first w c) (second w c)
     known-pool = record {
       sized = v .sized;
-      within = omega (arith, array-fits w (v .sound) c (v .known) e, v .sound .counted .2);
-      entries = entries-le (state w) (parent w) (first w c) (second w c) c mostContexts (omega (arith, known-few)) (array-entries w (v .sound) c (v .known) e);
+      within = omega (arith, array-fits w (v .sound) c (v .below) e, v .sound .counted .2);
+      entries = entries-le (state w) (parent w) (first w c) (second w c) c mostContexts (omega (arith, known-few)) (array-entries w (v .sound) c (v .below) e);
     }
 
     pub line-many : 69 ∷ spaced (second w c) ++ entriesBytes (poolNode w (first w c) (second w c)) ++ 10 ∷ [] ≡ entriesLine (nodeAt (storeOf w) c)
     unfolding entriesLine
     line-many =
         ap (λ (n : ℕ). 69 ∷ spaced n ++ entriesBytes (poolNode w (first w c) (second w c)) ++ 10 ∷ [])
-        (sym (listing-size (state w) (parent w) (first w c) (second w c) c (array-entries w (v .sound) c (v .known) e)))
+        (sym (listing-size (state w) (parent w) (first w c) (second w c) c (array-entries w (v .sound) c (v .below) e)))
         ∙ sym (ap entriesLine (known-node ∙ node-many w c e))

@@ -1,8 +1,8 @@
 -- What `admit` answered; where it let the call pass, the scratch is cleared.
 use borrow.Author.Needs.{needs}
-use Rattle.queries.specs.Asks.{asks-known, asks-refused}
-use Rattle.queries.proofs.ask.ask.Statement.{statement}
-use Rattle.queries.proofs.ask.ask.Tie as tie
+use Rattle.store.specs.Asks.{asks-known, asks-refused}
+use Rattle.store.proofs.inner.ask.ask.Statement.{statement}
+use Rattle.store.proofs.inner.ask.ask.Tie as tie
 
 returns : tie.Need-returns
 returns c =

@@ -1,18 +1,27 @@
--- What the checks leave to a query: a known context and a cleared scratch, or the refusal, whatever the reply would have been.
-use mathlib.Core.Path.{_≡_, sym, ap, _∙_}
+-- What the checks leave to a call that only reads: a known context and a cleared scratch, or the refusal, whatever the reply would have been.
+use mathlib.Core.Path.{_≡_, sym, _∙_}
 use mathlib.Core.List.{List}
-use Prim.Native.Nat.{ℕ}
+use Prim.Native.Nat.{ℕ, _<_}
 use native.Mathlib.Omega.{arith}
 use lib.ListN.{length, replicate}
 use Rattle.words.specs.declared.refusals.Refusal.{Refusal}
 use Rattle.words.specs.Refusals.{number}
-use Rattle.store.specs.Calls.{Reply, refused, zeros, kept}
-use Rattle.store.specs.Admit.{Admits, cleared}
+use Rattle.layout.specs.Layout.{storeWords, count}
+use Rattle.layout.specs.Sound.{SoundWords}
+use Rattle.store.specs.Calls.{Reply, refused, Left, left, zeros, kept, ifKnown}
+use Rattle.store.specs.Admit.{checked, Admits, cleared}
 use Rattle.store.specs.declared.inner.admit.Admitted.{Admitted}
 use Rattle.store.specs.declared.inner.admit.Admitted.the-variants.{Ready as ready, Refused}
-use Rattle.queries.specs.Queries.{asked}
-use Rattle.queries.specs.Answers.{left}
-use Rattle.queries.specs.Known.{Known}
+
+-- w is the store's words, z the scratch's, c the context's number. Checks 2, 1 and 4; then the reply r: the store stays as it was, the scratch is 0
+unfoldable pub asked : List ℕ → List ℕ → ℕ → Reply → Left
+asked w z c r = checked w z (ifKnown w c (kept r w))
+
+-- the words are sound, and c is one of their contexts
+pub record Known (w : List ℕ) (c : ℕ) : Type 0 where
+  pub sized : length w ≡ storeWords
+  pub sound : SoundWords w
+  pub below : c < count w
 
 -- the words w and z at entry, the context's number c, what the checks answered, the scratch v afterwards
 pub record Asks (w z : List ℕ) (c : ℕ) (a : Admitted) (v : List ℕ) : Type 0 where
