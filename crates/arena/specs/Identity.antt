@@ -8,7 +8,7 @@ use native.Mathlib.Omega.{arith}
 use lib.Dec.{eqb}
 use lib.ListN.{length}
 use Rattle.stacks.specs.Forest.{Forest, none, mark, over, mem}
-use Rattle.stacks.specs.Beneath.{ext}
+use Rattle.stacks.specs.Beneath.{first, mem-first, ext}
 use Rattle.stacks.specs.Merge.{isMark}
 use Rattle.arena.specs.Store.{Node, end, dollar, push, Store, treeOf, tree, nodeAt, Rise, Full, Sound}
 use Rattle.arena.specs.Trees.{node-sound, tree-node, tree-canon, tree-inj}
@@ -24,6 +24,10 @@ same-stacks s w a b h k = (
   λ e σ. ap (λ (c : ℕ). stands s c σ) e,
   λ same. tree-inj s w a b h k (ext _ _ (tree-canon s w a h .1) (tree-canon s w b k .1) same),
 )
+
+-- "A context stands for a finite, non-empty set of stacks": one that is there. (A forest is finite.)
+pub some-stack : (s : Store) → Sound s → (c : ℕ) → c < length s → (σ : List ℕ) × (stands s c σ ≡ true)
+some-stack s w c h = let v = tree-canon s w c h in (first (tree s c), mem-first 0 (tree s c) (v .1) (v .0))
 
 -- ---- context 0 is the empty stack alone, and no other is
 

@@ -10,5 +10,3 @@ pub mod Below
 pub mod Numbering
 pub mod Grouping
 pub mod Steps
-pub mod Loop
-pub mod Examples

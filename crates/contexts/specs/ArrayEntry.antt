@@ -38,7 +38,7 @@ module _ {m : Bool} {w₀ z₀ : List ℕ} {a b top : ℕ} (p : ArrayAndEntry m 
   entry-plain = plain-now (v₀ .live) b (v₀ .right) (p .right)
 
   pub entry-size : size (nodeAt (storeOf w₀) b) ≡ 1
-  entry-size = plain-size w₀ b entry-plain
+  entry-size = plain-size entry-plain
 
   pub mixed-fits : Fitting m w₀ z₀ a b top
   mixed-fits = record { unsettled = p .unsettled; room = omega (arith, v₀ .room, array-ends (v₀ .live) a (v₀ .left) (p .left), entry-size) }

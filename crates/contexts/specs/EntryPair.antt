@@ -43,10 +43,10 @@ module _ {m : Bool} {w₀ z₀ : List ℕ} {a b top : ℕ} (p : TwoEntries m w�
   right-plain = plain-now (v₀ .live) b (v₀ .right) (p .right)
 
   left-one : size (nodeAt (storeOf w₀) a) ≡ 1
-  left-one = plain-size w₀ a left-plain
+  left-one = plain-size left-plain
 
   right-one : size (nodeAt (storeOf w₀) b) ≡ 1
-  right-one = plain-size w₀ b right-plain
+  right-one = plain-size right-plain
 
   two-fit : Fitting m w₀ z₀ a b top
   two-fit = record { unsettled = p .unsettled; room = omega (arith, v₀ .room, left-one, right-one) }

@@ -70,7 +70,7 @@ module _ {w z : List ℕ} (v : Live w z) (c : ℕ) (h : c < count w) (k : kind w
 
 -- ---- the rest of the array, loaded
 
-module _ (w z : List ℕ) (c i top n : ℕ) (v : Finishing w z c i top n) (f k : ℕ) (ef : f ≡ first w c + i) (ek : k ≡ second w c - i) (y : List ℕ) (d : Loaded w z f k (top + n) y) where
+module _ {w z : List ℕ} {c i top n : ℕ} (v : Finishing w z c i top n) {f k : ℕ} (ef : f ≡ first w c + i) (ek : k ≡ second w c - i) {y : List ℕ} (d : Loaded w z f k (top + n) y) where
   rest-is : rest (nodeAt (storeOf w) c) i ≡ listing (state w) (parent w) f k
   rest-is =
       rw (array-node (v .live) c (v .known) (v .array), ef, ek)
@@ -136,13 +136,3 @@ module _ (w z : List ℕ) (c i top n : ℕ) (v : Finishing w z c i top n) (f k :
 pub interns-extends : (w z : List ℕ) (top n : ℕ) (r : Made) (w′ u : List ℕ) → length z ≡ scratchWords → Interns w z top n r w′ u → Extends w z top (intern (storeOf w) (stackNode z top n)) r w′ u
 interns-extends w z top n (At d) w′ u l g = record { number = g .number; store = g .store; live = g .live; same = λ e a b. g .above e a }
 interns-extends w z top n NoRoom w′ u l g = (g .0, g .1, ap length (g .2) ∙ l)
-
--- ---- lengths are kept
-
-pub extends-store : (w z : List ℕ) (top : ℕ) (x : ℕ × Store) (r : Made) (w′ u : List ℕ) → Live w z → Extends w z top x r w′ u → length w′ ≡ 5634
-extends-store w z top x (At d) w′ u v g = live-length (g .live)
-extends-store w z top x NoRoom w′ u v g = ap length (g .1) ∙ live-length v
-
-pub extends-scratch : (w z : List ℕ) (top : ℕ) (x : ℕ × Store) (r : Made) (w′ u : List ℕ) → Extends w z top x r w′ u → length u ≡ scratchWords
-extends-scratch w z top x (At d) w′ u g = g .live .index .sized
-extends-scratch w z top x NoRoom w′ u g = g .2

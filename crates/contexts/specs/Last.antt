@@ -35,7 +35,7 @@ pub record Plain (w : List ℕ) (c : ℕ) : Type 0 where
   pub known : c < count w
   pub plain : kind w c ≡ 2 → ⊥
 
-module _ (w : List ℕ) (c : ℕ) (v : Plain w c) where
+module _ {w : List ℕ} {c : ℕ} (v : Plain w c) where
   pub plain-few : c < 512
   plain-few = omega (arith, v .known, v .sound .counted .1)
 
@@ -73,7 +73,7 @@ pub record Lasting (w z : List ℕ) (c top n : ℕ) : Type 0 where
 abbrev pub withLast : List ℕ → List ℕ → ℕ → ℕ → ℕ → ℕ × Store
 withLast w z c top n = intern (storeOf w) (onto (stackState z) (stackParent z) top n (nodeAt (storeOf w) c))
 
-module _ (w z : List ℕ) (c top n : ℕ) (v : Lasting w z c top n) (p r : ℕ) (ep : p ≡ headParent (nodeAt (storeOf w) c)) (er : r ≡ headState (nodeAt (storeOf w) c)) (y : List ℕ) (ey : y ≡ putEntry z (top + n) p r) where
+module _ {w z : List ℕ} {c top n : ℕ} (v : Lasting w z c top n) {p r : ℕ} (ep : p ≡ headParent (nodeAt (storeOf w) c)) (er : r ≡ headState (nodeAt (storeOf w) c)) (y : List ℕ) (ey : y ≡ putEntry z (top + n) p r) where
   known : c < length (storeOf w)
   known = omega (arith, v .plain .known, live-count (v .live))
 
@@ -105,7 +105,7 @@ module _ (w z : List ℕ) (c top n : ℕ) (v : Lasting w z c top n) (p r : ℕ) 
       let q : suc n + 0 ≡ n + 1 = omega arith in
       let e : onto (stackState y) (stackParent y) top (suc n) end ≡ stackNode y top (n + 1) = onto-listing (stackState y) (stackParent y) top (suc n) 0 ∙ ap (stackNode y top) q in
       sym e ∙ push-onto z top n p r (v .live .index .sized) (v .room) y ey end ∙
-      ap (onto (stackState z) (stackParent z) top n) ((rw (er, ep)) ∙ sym (single-cons (nodeAt (storeOf w) c) (plain-size w c (v .plain)) node-small))
+      ap (onto (stackState z) (stackParent z) top n) ((rw (er, ep)) ∙ sym (single-cons (nodeAt (storeOf w) c) (plain-size (v .plain)) node-small))
 
   pub lasted : (made : Made) (w′ u : List ℕ) → Interns w y top (n + 1) made w′ u → Extends w z top (withLast w z c top n) made w′ u
   lasted (At x) w′ u g = record {

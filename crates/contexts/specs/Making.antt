@@ -32,7 +32,7 @@ grown-same w z x c v e = record { number = sym (ap (λ (y : ℕ × Store). y .0)
 
 -- ---- entries that are pushed
 
-module _ (w z : List ℕ) (place n : ℕ) (v : Pushed w z place n) where
+module _ {w z : List ℕ} {place n : ℕ} (v : Pushed w z place n) where
   pub pushed-512 : Stacked z place n 512
   pushed-512 = record {
     sized = v .stacked .sized;
@@ -91,7 +91,7 @@ array-eq w a b q d n k e f = rw (add-one a, e, f)
 
 -- ---- entries that no record has
 
-module _ (w z : List ℕ) (place n h : ℕ) (v : Missing w z place n h) where
+module _ {w z : List ℕ} {place n h : ℕ} (v : Missing w z place n h) where
   new-full : Full (stackNode z place n)
   new-full = listing-full (stackState z) (stackParent z) place n (v .proper .some)
 
@@ -118,7 +118,7 @@ module _ (w z : List ℕ) (place n h : ℕ) (v : Missing w z place n h) where
       let s = storeOf w in
       let k = stackNode z place n in
       let e : Rattle.layout.specs.Listing.Entries (stackState z) (stackParent z) place n (length s) = v .pushed .stacked .entries in
-      let g : GoodStore (k ∷ s) = grown s k (v .pushed .live .good) (pushed-rise w z place n (v .pushed)) new-full (listing-below (stackState z) (stackParent z) place n (length s) e) (v .missing) f in
+      let g : GoodStore (k ∷ s) = grown s k (v .pushed .live .good) (pushed-rise (v .pushed)) new-full (listing-below (stackState z) (stackParent z) place n (length s) e) (v .missing) f in
       let c : count w ≡ length s = live-count (v .pushed .live) in
       let i : Indexed (k ∷ s) u = rw eu (subst (λ (x : ℕ). Indexed (k ∷ s) (putIndex z x h)) (sym c) (index-add s k z h (omega (arith, f .0)) (v .hashed) (v .pushed .live .index))) in
       let o = words-live w′ u (k ∷ s) g (ew ∙ ap (λ (x : List ℕ). written x s k) (v .pushed .live .words) ∙ sym (words-grown s k)) i in

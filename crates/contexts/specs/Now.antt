@@ -29,7 +29,7 @@ module _ {w z : List ℕ} (v : Live w z) (c : ℕ) (h : c < length (storeOf w)) 
   plain-now k = record { sized = live-length v; sound = live-sound v; known = known-now; plain = k }
 
   pub array-now : 2 ≤ size (nodeAt (storeOf w) c) → kind w c ≡ 2
-  array-now s = two (kind w c) 2 (λ e. e) (λ n. absurd (omega (arith, plain-size w c (plain-now n))))
+  array-now s = two (kind w c) 2 (λ e. e) (λ n. absurd (omega (arith, plain-size (plain-now n))))
 
   pub single-now : size (nodeAt (storeOf w) c) ≡ 1 → Plain w c
   single-now s = plain-now (λ k. omega (arith, array-size v c known-now k, live-sound v .long c known-now k))

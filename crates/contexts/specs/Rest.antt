@@ -47,11 +47,6 @@ cons-push r p x n = rw (ne-eqb r stop n, cons)
 
 -- ---- rests
 
-pub rest-end : (i : ℕ) → rest end i ≡ end
-unfolding rest
-rest-end zero = refl
-rest-end (suc i) = refl
-
 pub rest-next : (n : Node) (i : ℕ) → rest (rest n i) 1 ≡ rest n (suc i)
 unfolding rest
 rest-next end zero = refl

@@ -17,12 +17,6 @@ use Rattle.contexts.specs.Onto.{onto, onto-more, onto-agree}
 abbrev pub SameStack : List ℕ → List ℕ → ℕ → Type 0
 SameStack z u t = (i : ℕ) → 7936 ≤ i → i < 7936 + 2 * t → getD u i 0 ≡ getD z i 0
 
-pub between-le : (z u : List ℕ) (t l : ℕ) → l ≤ t → SameStack z u t → SameStack z u l
-between-le z u t l h v i a b = v i a (omega arith)
-
-pub between-trans : (z y u : List ℕ) (t : ℕ) → SameStack z y t → SameStack y u t → SameStack z u t
-between-trans z y u t v w i a b = w i a b ∙ v i a b
-
 module _ (z u : List ℕ) (t : ℕ) (v : SameStack z u t) (e : ℕ) (h : e < t) where
   pub same-state : stackState u e ≡ stackState z e
   unfolding stackState

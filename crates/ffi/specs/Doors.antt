@@ -2,7 +2,7 @@
 use mathlib.Core.Bool.{Bool, true, false}
 use Prim.Native.Nat.{ℕ}
 use lib.Dec.{eqb}
-use Rattle.store.specs.Calls.{Reply, refused, done, context, count, state, holds, none}
+use Rattle.store.specs.Calls.{Reply, refused, done, shown, context, count, state, holds, none}
 use Rattle.ffi.specs.declared.answers.Answer.{Answer}
 use Rattle.ffi.specs.declared.answers.EntryAnswer.{EntryAnswer}
 
@@ -47,6 +47,7 @@ answer n v = record { refusal = n; value = v }
 unfoldable pub answerOf : Reply → Answer
 answerOf (refused n) = answer n 0
 answerOf done = answer 0 0
+answerOf shown = answer 0 0
 answerOf (context c) = answer 0 c
 answerOf (count n) = answer 0 n
 answerOf (state s) = answer 0 s
@@ -64,4 +65,5 @@ entryOf (context c) = entryAnswer 0 1 c
 entryOf (count n) = entryAnswer 0 1 n
 entryOf (holds b) = entryAnswer 0 0 0
 entryOf done = entryAnswer 0 0 0
+entryOf shown = entryAnswer 0 0 0
 entryOf none = entryAnswer 0 0 0

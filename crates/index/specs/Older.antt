@@ -46,13 +46,3 @@ older-sound (n ∷ s) k w h =
     two k (suc (length s))
     (λ e. rw (older-all (n ∷ s) k (omega arith)) w)
     (λ d. rw (older-part n s k (omega arith)) (older-sound s k (w .3) (omega arith)))
-
--- the first k records of words
-pub older-words : (w : List ℕ) (n k : ℕ) → k ≤ n → older (storeIn w n) k ≡ storeIn w k
-unfolding storeIn
-older-words w zero k h = let z : k ≡ 0 = omega arith in rw z (older-all [] 0 (omega arith))
-older-words w (suc n) k h =
-    let l : length (storeIn w n) ≡ n = store-length w n in
-    two k (suc n)
-    (λ e. rw e (older-all (storeIn w (suc n)) (suc n) (omega (arith, store-length w (suc n)))))
-    (λ d. older-part (nodeIn w n) (storeIn w n) k (omega arith) ∙ older-words w n k (omega arith))

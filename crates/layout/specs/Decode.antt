@@ -45,11 +45,6 @@ store-node w (suc n) c h =
     (λ e. node-new _ _ c (omega arith) ∙ ap (nodeIn w) (sym e))
     (λ e. node-old _ _ c (omega arith) ∙ store-node w n c (omega arith))
 
-pub store-agree : (w u : List ℕ) (n : ℕ) → ((c : ℕ) → c < n → nodeIn w c ≡ nodeIn u c) → storeIn w n ≡ storeIn u n
-unfolding storeIn
-store-agree w u zero h = refl
-store-agree w u (suc n) h = rw (h n (omega arith), store-agree w u n (λ c l. h c (omega arith)))
-
 -- ---- by kind
 
 module _ (w : List ℕ) (c : ℕ) where

@@ -2,10 +2,7 @@
 use mathlib.Core.Path.{_≡_, refl, sym, ap, _∙_}
 use mathlib.Core.List.{List, [], _∷_}
 use Prim.Native.Nat.{ℕ}
-use lib.ListN.{getD}
-use Rattle.words.specs.declared.refusals.Refusal.{Refusal}
-use Rattle.words.specs.declared.refusals.Refusal.the-variants.{WrongLength, UnsoundStore, UnsoundSet, TooManyStops, ReadOnlySet, UnknownContext, StateOutOfRange, FullSet, FullStore, MalformedRecord}
-use Rattle.words.specs.Refusals.{number}
+use Rattle.store.specs.Told.{number-tells}
 use Rattle.store.specs.Calls.{Reply, refused, Left, determined}
 use Rattle.queries.specs.declared.answers.Counted.{Counted}
 use Rattle.queries.specs.declared.answers.Counted.the-variants.{Count, Refused as notCounted}
@@ -18,32 +15,6 @@ use Rattle.queries.specs.declared.answers.ParentFound.the-variants.{Pare
 use Rattle.queries.specs.Queries.{lenCall, isEmptyCall, hasEmptyPathCall, returnStateCall, parentCall}
 use Rattle.store.specs.Calls.{left}
 use Rattle.queries.specs.Answers.{counted, answered, stateFound, parentFound}
-
--- ---- a number tells its refusal
-
--- by number from 0 on; 0 is none's
-refusals : List Refusal
-refusals =
-    WrongLength ∷ UnsoundStore ∷ WrongLength ∷ UnsoundSet ∷ UnknownContext ∷ StateOutOfRange ∷ FullStore ∷ ReadOnlySet ∷ FullSet
-    ∷ MalformedRecord ∷ TooManyStops ∷ []
-
-numbered : (f : Refusal) → getD refusals (number f) WrongLength ≡ f
-unfolding refusals
-numbered WrongLength = refl
-numbered UnsoundStore = refl
-numbered UnsoundSet = refl
-numbered TooManyStops = refl
-numbered ReadOnlySet = refl
-numbered UnknownContext = refl
-numbered StateOutOfRange = refl
-numbered FullSet = refl
-numbered FullStore = refl
-numbered MalformedRecord = refl
-
-number-tells : (f g : Refusal) → refused (number f) ≡ refused (number g) → f ≡ g
-number-tells f g e =
-    let n : number f ≡ number g = cc in
-    sym (numbered f) ∙ ap (λ (k : ℕ). getD refusals k WrongLength) n ∙ numbered g
 
 -- ---- a reply tells the answer
 

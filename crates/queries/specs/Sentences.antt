@@ -12,11 +12,13 @@ use Rattle.layout.specs.Layout.{storeWords, stop, kind, first, second, parent}
 use Rattle.layout.specs.Layout.{state as stateWord}
 use Rattle.layout.specs.Decode.{storeOf}
 use Rattle.layout.specs.Sound.{SoundWords}
+use Rattle.stacks.specs.Compare.{two}
+use Rattle.encoding.specs.Reads.{kind?, kind-zero}
 use Rattle.store.specs.Calls.{context, state, none}
 use Rattle.queries.specs.Queries.{stateAt, parentOf}
 use Rattle.queries.specs.Listed.{state-past}
 use Rattle.store.specs.Asks.{Known}
-use Rattle.queries.specs.Known.{size-other, state-many, state-zero, parent-zero, parent-many, parent-at-past}
+use Rattle.queries.specs.Known.{size-many, size-other, many-some, state-many, state-zero, parent-zero, parent-many, parent-at-past}
 
 module _ (w : List ℕ) (l : length w ≡ storeWords) (v : SoundWords w) where
   root : Known w 0
@@ -36,6 +38,18 @@ module _ (w : List ℕ) (l : length w ≡ storeWords) (v : SoundWords w) where
   -- "`parent` of context 0 is none at every index"
   pub root-parent : (i : ℕ) → parentOf (storeOf w) 0 i ≡ none
   root-parent i = parent-zero root i (v .root .0)
+
+-- "of one other entry, a singleton; of two or more, an array": what the kind word of a record's entries is
+module _ (w : List ℕ) (c : ℕ) (k : Known w c) where
+  pub one-is-singleton : 0 < c → size (nodeAt (storeOf w) c) ≡ 1 → kind w c ≡ 1
+  one-is-singleton h e =
+      kind? w (k .sound) c (k .below)
+      (λ z. absurd (omega (arith, kind-zero w (k .sound) c (k .below) z)))
+      (λ o. o)
+      (λ t. absurd (omega (arith, size-many k t, many-some k t)))
+
+  pub more-are-array : 2 ≤ size (nodeAt (storeOf w) c) → kind w c ≡ 2
+  more-are-array h = two (kind w c) 2 (λ e. e) (λ n. absurd (omega (arith, size-other k n)))
 
 module _ (w : List ℕ) (c : ℕ) (k : Known w c) (i : ℕ) where
   -- an array's `$`: the empty mark, "yet the parent of an array's `$` is 0"

@@ -37,8 +37,5 @@ fn main() {
     let mut sample = room();
     let n = io::read_full(file, &mut sample);
     libc::close(file);
-    let mut store = [0u32; 5634];
-    let mut scratch = [0u32; 16384];
-    let mut out = [0u8; 40000];
-    report(compare(&sample[..n], &mut store, &mut scratch, &mut out));
+    report(compare(&sample[..n]));
 }

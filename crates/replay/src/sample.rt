@@ -34,28 +34,17 @@ fn part_at(bytes: &[u8], at: usize) -> Part
 }
 
 // 1 where a script gives another answer, else 0.
-fn difference(
-    script: &[u8],
-    answer: &[u8],
-    store: &mut [u32; 5634],
-    scratch: &mut [u32; 16384],
-    out: &mut [u8; 40000],
-) -> u64
+fn difference(script: &[u8], answer: &[u8]) -> u64
     ensures { λ r. ⌜ Differs (now (script .entry)) (now (answer .entry)) r ⌝ }
 {
-    if script::replays(script, answer, store, scratch, out) {
+    if script::replays(script, answer) {
         return 0;
     }
     1
 }
 
 // Runs every script of a sample.
-pub fn compare(
-    bytes: &[u8],
-    store: &mut [u32; 5634],
-    scratch: &mut [u32; 16384],
-    out: &mut [u8; 40000],
-) -> Tally
+pub fn compare(bytes: &[u8]) -> Tally
     ensures { λ r. ⌜ Tallied (now (bytes .entry)) r ⌝ }
 {
     let mut at = 0;
@@ -70,7 +59,7 @@ pub fn compare(
         let Part::Found(start, end) = answer else {
             return Tally::Cut;
         };
-        let more = difference(&bytes[from..to], &bytes[start..end], store, scratch, out);
+        let more = difference(&bytes[from..to], &bytes[start..end]);
         scripts += 1;
         differences += more;
         at = end;

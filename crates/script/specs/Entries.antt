@@ -26,9 +26,3 @@ pub record PoolAt (w : List ℕ) (from n : ℕ) : Type 0 where
   pub sized : length w ≡ storeWords
   pub within : from + n ≤ mostEntries
   pub entries : Entries (state w) (parent w) from n mostContexts
-
--- a known context of a sound store
-pub record Known (w : List ℕ) (c : ℕ) : Type 0 where
-  pub sized : length w ≡ storeWords
-  pub sound : SoundWords w
-  pub known : c < count w

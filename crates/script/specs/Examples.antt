@@ -1,10 +1,10 @@
 -- Document 01's example, as far as its kinds are served: the script's bytes, its records, and all that it prints, computed from the definitions.
 use mathlib.Core.Path.{_≡_, refl}
-use mathlib.Core.Bool.{false}
-use mathlib.Core.List.{List, [], _∷_}
+use mathlib.Core.Bool.{true, false}
+use mathlib.Core.List.{List, [], _∷_, _++_}
 use Prim.Native.Nat.{ℕ}
 use Rattle.stacks.specs.Merge.{isMark, wild, mergeE, mergeT}
-use Rattle.arena.specs.Store.{dollar, push, same, find, tree, treeOf, nodeAt}
+use Rattle.arena.specs.Store.{end, dollar, push, same, find, tree, treeOf, nodeAt}
 use Rattle.arena.specs.Place.{listed, intern, placeE, place, mergeS}
 use Rattle.arena.specs.Kinds.{size, kindOf}
 use Rattle.arena.specs.Room.{pool, room}
@@ -19,7 +19,7 @@ use Rattle.store.specs.Asks.{asked}
 use Rattle.contexts.specs.Calls.{ifState, placedSingle, singletonCall, mergeCall}
 use Rattle.script.specs.Bytes.{u16At, u32At, u64At}
 use Rattle.script.specs.Payloads.{payloads, payloadOf, accepts}
-use Rattle.script.specs.Format.{singleton, merge, show, found, ended, malformed, payloadAt, recordAt, readAt}
+use Rattle.script.specs.Format.{Record, singleton, merge, show, found, ended, malformed, payloadAt, recordAt, readAt}
 use Rattle.script.specs.Decimal.{digits, decimal}
 use Rattle.script.specs.Lines.{contextLine, refusalLine, entriesBytes, entriesLine, endLine}
 use Rattle.script.specs.Steps.{lineOf, callOf, readingStep, stepOf, repliesFrom, scriptReplies}
@@ -57,3 +57,33 @@ pub example : scriptReplies script ≡
     ∷ 84 ∷ 32 ∷ 51 ∷ 32 ∷ 50 ∷ 10 ∷ []
 unfolding script isMark wild mergeE mergeT same find tree treeOf nodeAt listed intern placeE place mergeS size kindOf pool room blank count used kind first second parent state listing nodeFrom nodeIn storeIn putPool fill putRecord putCounts putNode written wordsOf sameWords rises hasEntry isNowhere soundStore nodeBelow storeBelow fits goodStore sound zeros ifLengths ifSound ifKnown grown checked asked ifState placedSingle singletonCall mergeCall u16At u32At u64At payloads payloadOf accepts payloadAt recordAt readAt digits decimal contextLine refusalLine entriesBytes entriesLine endLine lineOf callOf readingStep stepOf repliesFrom scriptReplies
 example = refl
+
+-- ---- document 01's examples P1 to P9, one table
+
+-- what records print, one after the other, over a fresh store
+unfoldable pub saidFrom : List ℕ → List ℕ → List Record → List ℕ
+saidFrom w z [] = []
+saidFrom w z (r ∷ rs) = let p = callOf w z r in p .reply ++ saidFrom (p .store) (p .scratch) rs
+
+unfoldable pub said : List Record → List ℕ
+said = saidFrom (wordsOf (dollar ∷ [])) zeros
+
+pub P1-to-P9 :
+    -- P1: singleton of 0 and 7, twice: 1 both times
+    (said (singleton 0 7 ∷ singleton 0 7 ∷ []) ≡ contextLine 1 ++ contextLine 1)
+    -- P2: the empty mark on parent 0: 0. P3 4294967294 accepted. P4 4294967295 refused 5
+    × (said (singleton 0 18446744073709551615 ∷ []) ≡ contextLine 0)
+    × (said (singleton 0 4294967294 ∷ []) ≡ contextLine 1)
+    × (said (singleton 0 4294967295 ∷ []) ≡ refusalLine 5)
+    -- P5: full merge of 42 over 0 with 0: entries 42>0, `$`. P6 wildcard: 0
+    × (said (singleton 0 42 ∷ merge 1 0 false ∷ show 2 ∷ []) ≡ contextLine 1 ++ contextLine 2 ++ entriesLine (push 42 0 dollar))
+    × (said (singleton 0 42 ∷ merge 1 0 true ∷ []) ≡ contextLine 1 ++ contextLine 0)
+    -- P7: full merge of 7 over 100 and 7 over 200: one entry 7; its parent has entries 100 and 200
+    × (said (singleton 0 100 ∷ singleton 0 200 ∷ singleton 1 7 ∷ singleton 2 7 ∷ merge 3 4 false ∷ show 6 ∷ show 5 ∷ [])
+    ≡ contextLine 1 ++ contextLine 2 ++ contextLine 3 ++ contextLine 4 ++ contextLine 6 ++ entriesLine (push 7 5 end) ++ entriesLine (push 100 0 (push 200 0 end)))
+    -- P8: wildcard of 7 over 42 with 7 over 0: the latter. P9 full: one entry 7; its parent has 42 and `$`
+    × (said (singleton 0 42 ∷ singleton 1 7 ∷ singleton 0 7 ∷ merge 2 3 true ∷ []) ≡ contextLine 1 ++ contextLine 2 ++ contextLine 3 ++ contextLine 3)
+    × (said (singleton 0 42 ∷ singleton 1 7 ∷ singleton 0 7 ∷ merge 2 3 false ∷ show 5 ∷ show 4 ∷ [])
+    ≡ contextLine 1 ++ contextLine 2 ++ contextLine 3 ++ contextLine 5 ++ entriesLine (push 7 4 end) ++ entriesLine (push 42 0 dollar))
+unfolding said saidFrom isMark wild mergeE mergeT same find tree treeOf nodeAt listed intern placeE place mergeS size kindOf pool room blank count used kind first second parent state listing nodeFrom nodeIn storeIn putPool fill putRecord putCounts putNode written wordsOf sameWords rises hasEntry isNowhere soundStore nodeBelow storeBelow fits goodStore sound zeros ifLengths ifSound ifKnown grown checked asked ifState placedSingle singletonCall mergeCall digits decimal contextLine refusalLine entriesBytes entriesLine lineOf callOf
+P1-to-P9 = (refl, refl, refl, refl, refl, refl, refl, refl, refl)

@@ -1,9 +1,9 @@
--- The payload that each kind of record must have, and how the code's table writes it down.
+-- The payload that each kind of record must have. Assumes nothing: these are definitions.
 pub mod Laws
 use mathlib.Core.Bool.{Bool, true, false}
 use mathlib.Core.List.{List, [], _∷_}
-use Prim.Native.Nat.{ℕ, _+_, _%_}
-use lib.Dec.{eqb, ltb}
+use Prim.Native.Nat.{ℕ, _%_}
+use lib.Dec.{eqb}
 use lib.ListN.{getD}
 
 -- what a payload must be
@@ -28,27 +28,3 @@ accepts (exactly m) n = eqb n m
 accepts fours n = eqb (n % 4) 0
 accepts (later p) n = false
 accepts none n = false
-
--- ---- the table: a length, or a mark
-
--- any multiple of 4
-abbrev pub variable : ℕ
-variable = 16384
-
--- no kind, or one that is not served yet
-abbrev pub notServed : ℕ
-notServed = 32768
-
-unfoldable pub entry : Payload → ℕ
-entry (exactly n) = n
-entry fours = variable
-entry (later p) = notServed + entry p
-entry none = notServed
-
--- what an entry of the table accepts
-unfoldable pub entryAccepts : ℕ → ℕ → Bool
-entryAccepts e n =
-    elim (ltb e notServed) [
-      | true ↦ elim (eqb e variable) [ true ↦ eqb (n % 4) 0 | false ↦ eqb n e ]
-      | false ↦ false
-    ]

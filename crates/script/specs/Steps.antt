@@ -8,7 +8,7 @@ use lib.ListN.{length}
 use Rattle.arena.specs.Store.{dollar, nodeAt}
 use Rattle.layout.specs.Decode.{storeOf}
 use Rattle.layout.specs.Encode.{wordsOf}
-use Rattle.store.specs.Calls.{Reply, refused, done, context, count, state, holds, none, Left, zeros}
+use Rattle.store.specs.Calls.{Reply, refused, done, shown, context, count, state, holds, none, Left, zeros}
 use Rattle.store.specs.Asks.{asked}
 use Rattle.contexts.specs.Calls.{singletonCall, mergeCall}
 use Rattle.script.specs.Format.{Record, singleton, merge, show, Reading, found, ended, malformed, readAt}
@@ -18,10 +18,11 @@ use Rattle.script.specs.Lines.{contextLine, refusalLine, entriesLine, en
 abbrev pub mostBytes : ℕ
 mostBytes = 32768
 
--- the line of a reply; `done` prints the bytes given
+-- the line of a reply; `shown` prints the bytes given
 unfoldable pub lineOf : List ℕ → Reply → List ℕ
 lineOf e (refused n) = refusalLine n
-lineOf e done = e
+lineOf e done = []
+lineOf e shown = e
 lineOf e (context c) = contextLine c
 lineOf e (count n) = []
 lineOf e (state r) = []
@@ -41,7 +42,7 @@ printed e x = record { reply = lineOf e (x .reply); store = x .store; scratch = 
 unfoldable pub callOf : List ℕ → List ℕ → Record → Printed
 callOf w z (singleton p r) = printed [] (singletonCall w z p r)
 callOf w z (merge a b m) = printed [] (mergeCall w z a b m)
-callOf w z (show c) = printed (entriesLine (nodeAt (storeOf w) c)) (asked w z c done)
+callOf w z (show c) = printed (entriesLine (nodeAt (storeOf w) c)) (asked w z c shown)
 
 -- where a script goes on: at a place, or nowhere, since it is over
 pub data After : Type 0 where

@@ -1,6 +1,7 @@
 // The payload that each kind of record must have: a table with a length or a mark for each kind.
 ghost use mathlib.Core.Path.{_≡_};
-ghost use Rattle.script.specs.Payloads.{accepts, entry, payloadOf};
+ghost use Rattle.script.specs.Payloads.{accepts, payloadOf};
+ghost use Rattle.script.specs.Table.{entry};
 
 // Any multiple of 4.
 const VARIABLE: u32 = 16384;

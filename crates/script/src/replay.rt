@@ -43,8 +43,8 @@ fn agrees_last(store: &[u32], out: &mut [u8; 40000], answer: &[u8], at: usize) -
     false
 }
 
-// Does a script give exactly this answer, over a fresh store?
-pub fn replays(
+// Does a script give exactly this answer, with these words and bytes to work in?
+fn replays_over(
     script: &[u8],
     answer: &[u8],
     store: &mut [u32; 5634],
@@ -75,4 +75,14 @@ pub fn replays(
             }
         }
     }
+}
+
+// Does a script give exactly this answer, over a fresh store?
+pub fn replays(script: &[u8], answer: &[u8]) -> bool
+    ensures { λ r. ⌜ Tells (now (answer .entry) ≡ scriptReplies (now (script .entry))) r ⌝ }
+{
+    let mut store = [0u32; 5634];
+    let mut scratch = [0u32; 16384];
+    let mut out = [0u8; 40000];
+    replays_over(script, answer, &mut store, &mut scratch, &mut out)
 }

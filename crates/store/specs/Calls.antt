@@ -15,6 +15,7 @@ use Rattle.encoding.specs.Decide.{sound, fits}
 pub data Reply : Type 0 where
   refused : ℕ → Reply
   done : Reply
+  shown : Reply
   context : ℕ → Reply
   count : ℕ → Reply
   state : ℕ → Reply

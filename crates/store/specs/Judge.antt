@@ -114,7 +114,7 @@ passed-more w z u c q p h v g e l i = record {
 
 -- ---- a singleton's one entry on the stack
 
-module _ (w z : List ℕ) (c q : ℕ) (v : Passed w z c q) (h : c < 512) (k : kind w c ≡ 1) (a : first w c < c) (b : second w c < stop) where
+module _ {w z : List ℕ} {c q : ℕ} (v : Passed w z c q) (h : c < 512) (k : kind w c ≡ 1) (a : first w c < c) (b : second w c < stop) where
   long-enough : 7936 + 2 * 0 + 1 < length z
   long-enough = omega (arith, v .index .sized)
 
@@ -157,7 +157,7 @@ module _ (w z : List ℕ) (c q : ℕ) (v : Passed w z c q) (h : c < 512) (k : ki
 
 -- ---- an array's entries on the stack
 
-module _ (w z y : List ℕ) (c q : ℕ) (v : Passed w z c q) (h : c < 512) (k : kind w c ≡ 2) (f : first w c ≡ q) (l : 2 ≤ second w c) (m : q + second w c ≤ mostEntries)
+module _ {w z y : List ℕ} {c q : ℕ} (v : Passed w z c q) (h : c < 512) (k : kind w c ≡ 2) (f : first w c ≡ q) (l : 2 ≤ second w c) (m : q + second w c ≤ mostEntries)
     (e : Entries (state w) (parent w) (first w c) (second w c) c) (d : Loaded w z (first w c) (second w c) 0 y) where
   pub array-put : stackNode y 0 (second w c) ≡ nodeIn w c
   array-put = loaded-node w z (first w c) (second w c) 0 y d ∙ sym (node-many w c k)
@@ -182,8 +182,8 @@ module _ (w z y : List ℕ) (c q : ℕ) (v : Passed w z c q) (h : c < 512) (k : 
 
 -- ---- the same, as the code has it: values read, and the scratch after each call
 
-module _ (w z : List ℕ) (c q : ℕ) (v : Passed w z c q) (h : c < 512) where
-  module _ (k : kind w c ≡ 1) (a b : ℕ) (ea : a ≡ first w c) (eb : b ≡ second w c) where
+module _ {w z : List ℕ} {c q : ℕ} (v : Passed w z c q) (h : c < 512) where
+  module _ (k : kind w c ≡ 1) {a b : ℕ} (ea : a ≡ first w c) (eb : b ≡ second w c) where
     pub single-not-older : c ≤ a → GoodRecord w c → ⊥
     single-not-older l g = omega (arith, good-single w c k g .older)
 
@@ -201,15 +201,15 @@ module _ (w z : List ℕ) (c q : ℕ) (v : Passed w z c q) (h : c < 512) where
       less-second = omega arith
 
       pub read-fresh : Fresh w y c 1
-      read-fresh = rw put-is (single-fresh w z c q v h k less-first less-second)
+      read-fresh = rw put-is (single-fresh v h k less-first less-second)
 
       pub read-good : (u : List ℕ) → FoundNew w y c 1 true u → Passed w u (suc c) q
-      read-good u f = single-good w z c q v h k less-first less-second u (rw put-is at f)
+      read-good u f = single-good v h k less-first less-second u (rw put-is at f)
 
       pub read-bad : (u : List ℕ) → FoundNew w y c 1 false u → (GoodRecord w c → ⊥) × (length u ≡ scratchWords)
-      read-bad u f = single-bad w z c q v h k less-first less-second u (rw put-is at f)
+      read-bad u f = single-bad v h k less-first less-second u (rw put-is at f)
 
-  module _ (k : kind w c ≡ 2) (a b : ℕ) (ea : a ≡ first w c) (eb : b ≡ second w c) where
+  module _ (k : kind w c ≡ 2) {a b : ℕ} (ea : a ≡ first w c) (eb : b ≡ second w c) where
     pub array-gap : (a ≡ q → ⊥) → GoodRecord w c → ⊥
     array-gap n g = n (ea ∙ good-array w c k g .filled ∙ sym (v .filled))
 
@@ -230,10 +230,10 @@ module _ (w z : List ℕ) (c q : ℕ) (v : Passed w z c q) (h : c < 512) where
       d′ = rw (ea, eb) at d
 
       pub many-fresh : Fresh w y c b
-      many-fresh = rw eb (array-fresh w z y c q v h k (omega arith) (omega arith) (omega arith) e′ d′)
+      many-fresh = rw eb (array-fresh v h k (omega arith) (omega arith) (omega arith) e′ d′)
 
       pub many-good : (u : List ℕ) → FoundNew w y c b true u → Passed w u (suc c) (q + b)
-      many-good u n = rw eb (array-good w z y c q v h k (omega arith) (omega arith) (omega arith) e′ d′ u (rw eb at n))
+      many-good u n = rw eb (array-good v h k (omega arith) (omega arith) (omega arith) e′ d′ u (rw eb at n))
 
       pub many-bad : (u : List ℕ) → FoundNew w y c b false u → (GoodRecord w c → ⊥) × (length u ≡ scratchWords)
-      many-bad u n = array-bad w z y c q v h k (omega arith) (omega arith) (omega arith) e′ d′ u (rw eb at n)
+      many-bad u n = array-bad v h k (omega arith) (omega arith) (omega arith) e′ d′ u (rw eb at n)

@@ -7,3 +7,4 @@ pub mod Admit
 pub mod Asks
 pub mod Renewed
 pub mod FreshWords
+pub mod Told

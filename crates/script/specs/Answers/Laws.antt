@@ -10,7 +10,7 @@ use Rattle.words.specs.declared.refusals.Refusal.{Refusal}
 use Rattle.arena.specs.Store.{nodeAt}
 use Rattle.layout.specs.Layout.{count}
 use Rattle.layout.specs.Decode.{storeOf}
-use Rattle.store.specs.Calls.{refused, done, Left}
+use Rattle.store.specs.Calls.{refused, shown, Left}
 use Rattle.store.specs.Asks.{Asks}
 use Rattle.store.specs.declared.inner.admit.Admitted.{Admitted}
 use Rattle.store.specs.declared.inner.admit.Admitted.the-variants.{Ready as ready, Refused}
@@ -39,11 +39,11 @@ answered-call b x a r u w z e v = rw (← e) (record { wrote = v; store = refl; 
 module _ {w z : List ℕ} {c : ℕ} {a : Admitted} {y : List ℕ} (v : Asks w z c a y) (b : List ℕ) (r : ℕ) (u : List ℕ) where
   pub show-refused : (f : Refusal) → a ≡ Refused f → (n : ℕ) → n ≡ number f → Wrote b 0 (numberLine 82 n) r u → Answered b (callOf w z (show c)) r u w y
   unfolding callOf lineOf refusalLine
-  show-refused f e n q p = rw (← v .refuses f e done) (record { wrote = rw q at p; store = refl; scratch = refl })
+  show-refused f e n q p = rw (← v .refuses f e shown) (record { wrote = rw q at p; store = refl; scratch = refl })
 
   pub show-done : a ≡ ready → Wrote b 0 (entriesLine (nodeAt (storeOf w) c)) r u → Answered b (callOf w z (show c)) r u w y
   unfolding callOf lineOf
-  show-done e p = rw (← v .replies e done) (record { wrote = p; store = refl; scratch = refl })
+  show-done e p = rw (← v .replies e shown) (record { wrote = p; store = refl; scratch = refl })
 
 -- ---- a step
 

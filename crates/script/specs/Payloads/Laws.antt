@@ -8,7 +8,8 @@ use lib.Dec.{T, eqb, ltb}
 use lib.ListN.{length, getD, List·getD-eq-default}
 use borrow.Author.Tests.{eqb-true, ltb-true, lt-ltb, le-ltb, eq-eqb, ne-eqb}
 use Rattle.encoding.specs.Places.{below?}
-use Rattle.script.specs.Payloads.{Payload, exactly, fours, later, none, payloads, payloadOf, accepts, variable, notServed, entry, entryAccepts}
+use Rattle.script.specs.Payloads.{Payload, exactly, fours, later, none, payloads, payloadOf, accepts}
+use Rattle.script.specs.Table.{variable, notServed, entry, entryAccepts}
 
 -- the code's table
 unfoldable pub table : List ℕ

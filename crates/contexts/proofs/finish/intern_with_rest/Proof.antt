@@ -10,7 +10,6 @@ use Rattle.contexts.proofs.finish.intern_with_rest.Tie as tie
 
 first-of-requires : tie.Need-first-of-requires
 first-of-requires c κs =
-    let args = c .before .before .before .args in
     let pre = c .before .before .before .pre in (
       live-length (pre .live),
       (omega (arith, pre .known, live-sound (pre .live) .counted .1)),
@@ -30,7 +29,6 @@ add-from c =
 
 second-of-requires : tie.Need-second-of-requires
 second-of-requires c κs =
-    let args = c .before .before .before .before .before .args in
     let pre = c .before .before .before .before .before .pre in (
       live-length (pre .live),
       (omega (arith, pre .known, live-sound (pre .live) .counted .1)),
@@ -79,9 +77,7 @@ intern-entries-requires c κs =
     let first-of = c .before .before .before .before .before .before .before .before .before .first-of in
     let second-of = c .before .before .before .before .before .before .before .second-of in
     let load-entries = c .before .before .before .before .load-entries in
-    finish-pushed (args .store .now) (args .scratch .now) (args .context) (args .i) (args .top) (args .n) pre (first-of .result + args .i)
-    (second-of .result - args .i) (ap (λ (x : ℕ). x + args .i) (first-of .ensures)) (ap (λ (x : ℕ). x - args .i) (second-of .ensures))
-    (load-entries .last .1 .0) (load-entries .ensures)
+    finish-pushed pre (ap (λ (x : ℕ). x + args .i) (first-of .ensures)) (ap (λ (x : ℕ). x - args .i) (second-of .ensures)) (load-entries .ensures)
 
 returns : tie.Need-returns
 returns c =
@@ -91,9 +87,7 @@ returns c =
     let second-of = c .before .before .before .before .before .before .before .before .before .before .before .before .second-of in
     let load-entries = c .before .before .before .before .before .before .before .before .before .load-entries in
     let intern-entries = c .before .before .before .before .intern-entries in
-    finished (args .store .now) (args .scratch .now) (args .context) (args .i) (args .top) (args .n) pre (first-of .result + args .i)
-    (second-of .result - args .i) (ap (λ (x : ℕ). x + args .i) (first-of .ensures)) (ap (λ (x : ℕ). x - args .i) (second-of .ensures))
-    (load-entries .last .1 .0) (load-entries .ensures) (intern-entries .result) (intern-entries .last .0) (intern-entries .last .1 .0)
+    finished pre (ap (λ (x : ℕ). x + args .i) (first-of .ensures)) (ap (λ (x : ℕ). x - args .i) (second-of .ensures)) (load-entries .ensures) (intern-entries .result) (intern-entries .last .0) (intern-entries .last .1 .0)
     (intern-entries .ensures)
 
 pub intern-with-rest-spec : {M : Type 1} → statement M

@@ -30,23 +30,21 @@ add-intern-entries c =
 
 intern-entries-requires : tie.Need-intern-entries-requires
 intern-entries-requires c κs =
-    let args = c .before .before .before .before .before .before .before .before .before .before .before .before .args in
     let pre = c .before .before .before .before .before .before .before .before .before .before .before .before .pre in
     let single-parent = c .before .before .before .before .before .before .before .before .single-parent in
     let single-state = c .before .before .before .before .before .before .single-state in
     let put-entry = c .before .before .before .before .put-entry in
-    last-pushed (args .store .now) (args .scratch .now) (args .context) (args .top) (args .n) pre (single-parent .result) (single-state .result)
+    last-pushed pre
     (single-parent .ensures) (single-state .ensures) (put-entry .last .0) (put-entry .ensures)
 
 returns : tie.Need-returns
 returns c =
-    let args = c .before .before .before .before .before .before .before .before .before .before .before .before .before .before .before .before .before .args in
     let pre = c .before .before .before .before .before .before .before .before .before .before .before .before .before .before .before .before .before .pre in
     let single-parent = c .before .before .before .before .before .before .before .before .before .before .before .before .before .single-parent in
     let single-state = c .before .before .before .before .before .before .before .before .before .before .before .single-state in
     let put-entry = c .before .before .before .before .before .before .before .before .before .put-entry in
     let intern-entries = c .before .before .before .before .intern-entries in
-    lasted (args .store .now) (args .scratch .now) (args .context) (args .top) (args .n) pre (single-parent .result) (single-state .result)
+    lasted pre
     (single-parent .ensures) (single-state .ensures) (put-entry .last .0) (put-entry .ensures) (intern-entries .result) (intern-entries .last .0)
     (intern-entries .last .1 .0) (intern-entries .ensures)
 

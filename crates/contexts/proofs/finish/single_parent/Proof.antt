@@ -6,26 +6,23 @@ use Rattle.contexts.proofs.finish.single_parent.Statement.{statement}
 use Rattle.contexts.proofs.finish.single_parent.Tie as tie
 
 kind-of-requires : tie.Need-kind-of-requires
-kind-of-requires c κs = (c .before .pre .sized, plain-few (c .before .args .store .now) (c .before .args .context) (c .before .pre))
+kind-of-requires c κs = (c .before .pre .sized, plain-few (c .before .pre))
 
 returns : tie.Need-returns
 unfolding headParent
 returns c =
-    let args = c .before .before .before .args in
-    rw (plain-zero (args .store .now) (args .context) (c .before .before .before .pre) (sym (c .before .kind-of .ensures) ∙ c .if1 .taken))
+    rw (plain-zero (c .before .before .before .pre) (sym (c .before .kind-of .ensures) ∙ c .if1 .taken))
 
 first-of-requires : tie.Need-first-of-requires
 first-of-requires c κs =
     let pre = c .before .before .before .pre in
-    let args = c .before .before .before .args in
-    (pre .sized, plain-few (args .store .now) (args .context) pre)
+    (pre .sized, plain-few pre)
 
 returns-2 : tie.Need-returns-2
 unfolding headParent
 returns-2 c =
-    let args = c .before .before .before .before .args in
     let pre = c .before .before .before .before .pre in
-    c .first-of .ensures ∙ rw (plain-one (args .store .now) (args .context) pre (λ e. c .before .if1 .left (c .before .before .kind-of .ensures ∙ e)))
+    c .first-of .ensures ∙ rw (plain-one pre (λ e. c .before .if1 .left (c .before .before .kind-of .ensures ∙ e)))
 
 pub single-parent-spec : {M : Type 1} → statement M
 single-parent-spec = tie.close (tie.spec kind-of-requires returns first-of-requires returns-2)

@@ -8,8 +8,7 @@ use Rattle.contexts.proofs.intern.intern_entries.Tie as tie
 
 returns : tie.Need-returns
 returns c =
-    let args = c .before .before .before .args in
-    none-pushed (args .store .now) (args .scratch .now) (args .at) (args .n) (c .before .before .before .pre) (c .if1 .taken)
+    none-pushed (c .before .before .before .pre) (c .if1 .taken)
 
 stack-state-requires : tie.Need-stack-state-requires
 stack-state-requires c κs =
@@ -18,18 +17,16 @@ stack-state-requires c κs =
 
 returns-2 : tie.Need-returns-2
 returns-2 c =
-    let args = c .before .before .before .before .before .before .args in
     let pre = c .before .before .before .before .before .before .pre in
-    dollar-pushed (args .store .now) (args .scratch .now) (args .at) (args .n) pre (c .before .before .before .if1 .left)
+    dollar-pushed pre (c .before .before .before .if1 .left)
     (sym (c .before .stack-state .ensures) ∙ c .if2 .taken)
 
 intern-proper-requires : tie.Need-intern-proper-requires
 intern-proper-requires c κs =
     let pre = c .before .before .before .before .before .before .before .before .pre in
-    let args = c .before .before .before .before .before .before .before .before .args in
     let if1 = c .before .before .before .before .before .if1 in (
       pre,
-      proper-of (args .store .now) (args .scratch .now) (args .at) (args .n) pre (if1 .left)
+      proper-of pre (if1 .left)
           (λ e. c .before .before .if2 .left (c .before .before .before .stack-state .ensures ∙ e)),
     )
 

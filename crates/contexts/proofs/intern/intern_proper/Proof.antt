@@ -11,45 +11,40 @@ use Rattle.contexts.proofs.intern.intern_proper.Tie as tie
 
 entries-hash-requires : tie.Need-entries-hash-requires
 entries-hash-requires c κs =
-    let args = c .before .before .before .args in
     let pre = c .before .before .before .pre in
-    (pushed-512 (args .store .now) (args .scratch .now) (args .at) (args .n) (pre .0), pre .1 .some)
+    (pushed-512 (pre .0), pre .1 .some)
 
 count-of-requires : tie.Need-count-of-requires
 count-of-requires c κs =
-    let args = c .before .before .before .before .before .args in
     let pre = c .before .before .before .before .before .pre in
     live-length (pre .0 .live)
 
 find-interned-requires : tie.Need-find-interned-requires
 find-interned-requires c κs =
-    let args = c .before .before .before .before .before .before .before .before .args in
     let pre = c .before .before .before .before .before .before .before .before .pre in
     let entries-hash = c .before .before .before .before .entries-hash in
     rw (c .before .before .count-of .ensures)
-    (pushed-sought (args .store .now) (args .scratch .now) (args .at) (args .n) (pre .0) (pre .1) (entries-hash .result)
-    (pushed-hash (args .store .now) (args .scratch .now) (args .at) (args .n) (pre .0) (entries-hash .result) (entries-hash .ensures)))
+    (pushed-sought (pre .0) (pre .1) (entries-hash .result)
+    (pushed-hash (pre .0) (entries-hash .result) (entries-hash .ensures)))
 
 returns : tie.Need-returns
 returns c =
-    let args = c .before .before .before .before .before .before .before .before .before .before .before .before .args in
     let pre = c .before .before .before .before .before .before .before .before .before .before .before .before .pre in
     let count-of = c .before .before .before .before .before .before .count-of in
     let find-interned = c .before .before .before .find-interned in
     let e : find-interned .result ≡ At (c .before .found .given .0 .0) = cc in
-    found-pushed (args .store .now) (args .scratch .now) (args .at) (args .n) (pre .0) (pre .1) (c .before .found .given .0 .0 .0)
+    found-pushed (pre .0) (pre .1) (c .before .found .given .0 .0 .0)
     (sym (rw (count-of .ensures) at (find-interned .ensures)) ∙ ap foundOf e)
 
 push-single-requires : tie.Need-push-single-requires
 push-single-requires c κs =
-    let args = c .before .before .before .before .before .before .before .before .before .before .before .before .before .before .args in
     let pre = c .before .before .before .before .before .before .before .before .before .before .before .before .before .before .pre in
     let entries-hash = c .before .before .before .before .before .before .before .before .before .before .entries-hash in
     let count-of = c .before .before .before .before .before .before .before .before .count-of in
     let find-interned = c .before .before .before .before .before .find-interned in
     rw (c .before .before .if1 .taken) at
-    (missing-of (args .store .now) (args .scratch .now) (args .at) (args .n) (pre .0) (pre .1) (entries-hash .result)
-    (pushed-hash (args .store .now) (args .scratch .now) (args .at) (args .n) (pre .0) (entries-hash .result) (entries-hash .ensures))
+    (missing-of (pre .0) (pre .1) (entries-hash .result)
+    (pushed-hash (pre .0) (entries-hash .result) (entries-hash .ensures))
     (sym (rw (count-of .ensures) at (find-interned .ensures)) ∙ ap foundOf (c .before .before .before .enum-told .given .1)))
 
 returns-2 : tie.Need-returns-2
@@ -60,13 +55,12 @@ returns-2 c =
 
 push-array-requires : tie.Need-push-array-requires
 push-array-requires c κs =
-    let args = c .before .before .before .before .before .before .before .before .before .before .before .before .before .before .args in
     let pre = c .before .before .before .before .before .before .before .before .before .before .before .before .before .before .pre in
     let entries-hash = c .before .before .before .before .before .before .before .before .before .before .entries-hash in
     let count-of = c .before .before .before .before .before .before .before .before .count-of in
     let find-interned = c .before .before .before .before .before .find-interned in (
-      missing-of (args .store .now) (args .scratch .now) (args .at) (args .n) (pre .0) (pre .1) (entries-hash .result)
-          (pushed-hash (args .store .now) (args .scratch .now) (args .at) (args .n) (pre .0) (entries-hash .result) (entries-hash .ensures))
+      missing-of (pre .0) (pre .1) (entries-hash .result)
+          (pushed-hash (pre .0) (entries-hash .result) (entries-hash .ensures))
           (sym (rw (count-of .ensures) at (find-interned .ensures)) ∙ ap foundOf (c .before .before .before .enum-told .given .1)),
       omega
           (arith, pre .1 .some, c .before .before .if1 .left),

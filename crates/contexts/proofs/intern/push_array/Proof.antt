@@ -11,20 +11,17 @@ use Rattle.contexts.proofs.intern.push_array.Tie as tie
 
 count-of-requires : tie.Need-count-of-requires
 count-of-requires c κs =
-    let args = c .before .before .before .args in
     live-length (c .before .before .before .pre .0 .pushed .live)
 
 used-of-requires : tie.Need-used-of-requires
 used-of-requires c κs =
-    let args = c .before .before .before .before .before .args in
     let pre = c .before .before .before .before .before .pre in
     live-length (pre .0 .pushed .live)
 
 returns : tie.Need-returns
 returns c =
-    let args = c .before .before .before .before .before .before .before .args in
     let pre = c .before .before .before .before .before .before .before .pre in (
-      no-context (args .store .now) (args .scratch .now) (args .at) (args .n) (args .hash) (pre .0)
+      no-context (pre .0)
           (rw (c .before .before .before .count-of .ensures) at (c .if1 .taken)),
       refl,
       refl,
@@ -32,15 +29,13 @@ returns c =
 
 sub-if2 : tie.Need-sub-if2
 sub-if2 c =
-    let args = c .before .before .before .before .before .before .before .args in
     let pre = c .before .before .before .before .before .before .before .pre in
     omega (arith, c .before .used-of .ensures, live-sound (pre .0 .pushed .live) .counted .2)
 
 returns-2 : tie.Need-returns-2
 returns-2 c =
-    let args = c .before .before .before .before .before .before .before .before .args in
     let pre = c .before .before .before .before .before .before .before .before .pre in (
-      no-entries (args .store .now) (args .scratch .now) (args .at) (args .n) (args .hash) (pre .0) (pre .1)
+      no-entries (pre .0) (pre .1)
           (rw (c .before .before .used-of .ensures) at (c .if2 .taken)),
       refl,
       refl,
@@ -48,7 +43,6 @@ returns-2 c =
 
 fill-pool-requires : tie.Need-fill-pool-requires
 fill-pool-requires c κs =
-    let args = c .before .before .before .before .before .before .before .before .before .before .args in
     let pre = c .before .before .before .before .before .before .before .before .before .before .pre in
     let used-of = c .before .before .before .before .used-of in (
       (
@@ -56,12 +50,11 @@ fill-pool-requires c κs =
         omega
             (arith, used-of .ensures, live-sound (pre .0 .pushed .live) .counted .2),
       ),
-      pushed-512 (args .store .now) (args .scratch .now) (args .at) (args .n) (pre .0 .pushed),
+      pushed-512 (pre .0 .pushed),
     )
 
 put-record-requires : tie.Need-put-record-requires
 put-record-requires c κs =
-    let args = c .before .before .before .before .before .before .before .before .before .before .before .before .before .before .args in
     let pre = c .before .before .before .before .before .before .before .before .before .before .before .before .before .before .pre in
     let if1 = c .before .before .before .before .before .before .before .if1 in (
       ap length (c .before .before .before .fill-pool .ensures) ∙ length-fill _ _ _ ∙ live-length
@@ -71,7 +64,6 @@ put-record-requires c κs =
 
 put-counts-requires : tie.Need-put-counts-requires
 put-counts-requires c κs =
-    let args = c .before .before .before .before .before .before .before .before .before .before .before .before .before .before .before .before .before .before .args in
     let pre = c .before .before .before .before .before .before .before .before .before .before .before .before .before .before .before .before .before .before .pre in
     let used-of = c .before .before .before .before .before .before .before .before .before .before .before .before .used-of in
     let fill-pool = c .before .before .before .before .before .before .before .fill-pool in (
@@ -90,7 +82,6 @@ add-to-index-requires c κs =
 
 returns-3 : tie.Need-returns-3
 returns-3 c =
-    let args = c .before .before .before .before .before .before .before .before .before .before .before .before .before .before .before .before .before .before .before .before .before .before .before .before .before .args in
     let pre = c .before .before .before .before .before .before .before .before .before .before .before .before .before .before .before .before .before .before .before .before .before .before .before .before .before .pre in
     let count-of = c .before .before .before .before .before .before .before .before .before .before .before .before .before .before .before .before .before .before .before .before .before .count-of in
     let used-of = c .before .before .before .before .before .before .before .before .before .before .before .before .before .before .before .before .before .before .before .used-of in
@@ -100,7 +91,7 @@ returns-3 c =
     let put-record = c .before .before .before .before .before .before .before .before .before .before .put-record in
     let put-counts = c .before .before .before .before .before .before .put-counts in
     let add-to-index = c .before .before .add-to-index in
-    read-array (args .store .now) (args .scratch .now) (args .at) (args .n) (args .hash) (pre .0) (count-of .result) (used-of .result)
+    read-array (pre .0) (count-of .result) (used-of .result)
     (count-of .ensures) (used-of .ensures) (put-counts .last .0) (add-to-index .last .0) (add-to-index .ensures) (pre .1) (if1 .left) (if2 .left)
     (fill-pool .last .0) (put-record .last .0) (fill-pool .ensures) (put-record .ensures) (put-counts .ensures)
 

@@ -11,20 +11,17 @@ use Rattle.contexts.proofs.intern.push_single.Tie as tie
 
 count-of-requires : tie.Need-count-of-requires
 count-of-requires c κs =
-    let args = c .before .before .before .args in
     live-length (c .before .before .before .pre .pushed .live)
 
 used-of-requires : tie.Need-used-of-requires
 used-of-requires c κs =
-    let args = c .before .before .before .before .before .args in
     let pre = c .before .before .before .before .before .pre in
     live-length (pre .pushed .live)
 
 returns : tie.Need-returns
 returns c =
-    let args = c .before .before .before .before .before .before .before .args in
     let pre = c .before .before .before .before .before .before .before .pre in (
-      no-context (args .store .now) (args .scratch .now) (args .at) 1 (args .hash) pre
+      no-context pre
           (rw (c .before .before .before .count-of .ensures) at (c .if1 .taken)),
       refl,
       refl,
@@ -42,14 +39,12 @@ stack-state-requires c κs =
 
 put-record-requires : tie.Need-put-record-requires
 put-record-requires c κs =
-    let args = c .before .before .before .before .before .before .before .before .before .before .before .before .args in
     let pre = c .before .before .before .before .before .before .before .before .before .before .before .before .pre in
     let if1 = c .before .before .before .before .before .if1 in
     (live-length (pre .pushed .live), if1 .left)
 
 put-counts-requires : tie.Need-put-counts-requires
 put-counts-requires c κs =
-    let args = c .before .before .before .before .before .before .before .before .before .before .before .before .before .before .before .before .args in
     let pre = c .before .before .before .before .before .before .before .before .before .before .before .before .before .before .before .before .pre in
     let used-of = c .before .before .before .before .before .before .before .before .before .before .used-of in (
       ap length (c .before .before .before .put-record .ensures) ∙ length-putRecord _ _ _ _ _ ∙ live-length (pre .pushed .live),
@@ -66,7 +61,6 @@ add-to-index-requires c κs =
 
 returns-2 : tie.Need-returns-2
 returns-2 c =
-    let args = c .before .before .before .before .before .before .before .before .before .before .before .before .before .before .before .before .before .before .before .before .before .before .before .args in
     let pre = c .before .before .before .before .before .before .before .before .before .before .before .before .before .before .before .before .before .before .before .before .before .before .before .pre in
     let count-of = c .before .before .before .before .before .before .before .before .before .before .before .before .before .before .before .before .before .before .before .count-of in
     let used-of = c .before .before .before .before .before .before .before .before .before .before .before .before .before .before .before .before .before .used-of in
@@ -76,7 +70,7 @@ returns-2 c =
     let put-record = c .before .before .before .before .before .before .before .before .before .before .put-record in
     let put-counts = c .before .before .before .before .before .before .put-counts in
     let add-to-index = c .before .before .add-to-index in
-    read-single (args .store .now) (args .scratch .now) (args .at) 1 (args .hash) pre (count-of .result) (used-of .result) (count-of .ensures)
+    read-single pre (count-of .result) (used-of .result) (count-of .ensures)
     (used-of .ensures) (put-counts .last .0) (add-to-index .last .0) (add-to-index .ensures) refl (if1 .left)
     (stack-parent .result) (stack-state .result) (stack-parent .ensures) (stack-state .ensures) (put-record .last .0) (put-record .ensures)
     (put-counts .ensures)

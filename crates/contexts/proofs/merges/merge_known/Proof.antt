@@ -11,12 +11,10 @@ use Rattle.contexts.proofs.merges.merge_known.Tie as tie
 
 count-of-requires : tie.Need-count-of-requires
 count-of-requires c κs =
-    let args = c .before .before .before .args in
     live-length (c .before .before .before .pre .0)
 
 used-of-requires : tie.Need-used-of-requires
 used-of-requires c κs =
-    let args = c .before .before .before .before .before .args in
     let pre = c .before .before .before .before .before .pre in
     live-length (pre .0)
 

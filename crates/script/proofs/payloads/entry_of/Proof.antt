@@ -2,7 +2,7 @@
 use borrow.Author.Needs.{needs}
 use native.Mathlib.Omega.{arith}
 use mathlib.Core.Path.{_≡_, refl, sym, ap, _∙_}
-use Rattle.script.specs.Payloads.{entry}
+use Rattle.script.specs.Table.{entry}
 use Rattle.script.specs.Payloads.Laws.{table, table-entry, no-kind}
 use Rattle.script.proofs.payloads.entry_of.Statement.{statement}
 use Rattle.script.proofs.payloads.entry_of.Tie as tie

@@ -18,22 +18,18 @@ second-of-requires c κs =
 
 returns : tie.Need-returns
 returns c =
-    let args = c .before .before .before .before .before .args in
     let pre = c .before .before .before .before .before .pre in
     let first-of = c .before .before .first-of in (
-      array-gap (args .store .now) (args .scratch .now) (args .context) (args .pool) (pre .0) (pre .1) (pre .2) (first-of .result)
-          (c .before .second-of .result) (first-of .ensures) (c .before .second-of .ensures) (c .if1 .taken),
+      array-gap (pre .0) (pre .1) (pre .2) (first-of .ensures) (c .before .second-of .ensures) (c .if1 .taken),
       pre .0 .index .sized,
     )
 
 returns-2 : tie.Need-returns-2
 returns-2 c =
-    let args = c .before .before .before .before .before .before .args in
     let pre = c .before .before .before .before .before .before .pre in
     let first-of = c .before .before .before .first-of in
     let second-of = c .before .before .second-of in (
-      array-short (args .store .now) (args .scratch .now) (args .context) (args .pool) (pre .0) (pre .1) (pre .2) (first-of .result)
-          (second-of .result) (first-of .ensures) (second-of .ensures) (c .if2 .taken),
+      array-short (pre .0) (pre .1) (pre .2) (first-of .ensures) (second-of .ensures) (c .if2 .taken),
       pre .0 .index .sized,
     )
 
@@ -44,12 +40,10 @@ sub-if3 c =
 
 returns-3 : tie.Need-returns-3
 returns-3 c =
-    let args = c .before .before .before .before .before .before .before .args in
     let pre = c .before .before .before .before .before .before .before .pre in
     let first-of = c .before .before .before .before .first-of in
     let second-of = c .before .before .before .second-of in (
-      array-past (args .store .now) (args .scratch .now) (args .context) (args .pool) (pre .0) (pre .1) (pre .2) (first-of .result)
-          (second-of .result) (first-of .ensures) (second-of .ensures) (c .before .before .if1 .left) (c .if3 .taken),
+      array-past (pre .0) (pre .1) (pre .2) (first-of .ensures) (second-of .ensures) (c .before .before .if1 .left) (c .if3 .taken),
       pre .0 .index .sized,
     )
 
@@ -60,12 +54,10 @@ entries-sound-requires c κs =
 
 returns-4 : tie.Need-returns-4
 returns-4 c =
-    let args = c .before .before .before .before .before .before .before .before .before .args in
     let pre = c .before .before .before .before .before .before .before .before .before .pre in
     let first-of = c .before .before .before .before .before .before .first-of in
     let second-of = c .before .before .before .before .before .second-of in (
-      array-unsound (args .store .now) (args .scratch .now) (args .context) (args .pool) (pre .0) (pre .1) (pre .2) (first-of .result)
-          (second-of .result) (first-of .ensures) (second-of .ensures)
+      array-unsound (pre .0) (pre .1) (pre .2) (first-of .ensures) (second-of .ensures)
           (rw (not-true (c .before .entries-sound .result) (c .if4 .taken)) at (c .before .entries-sound .ensures)),
       pre .0 .index .sized,
     )
@@ -78,7 +70,6 @@ load-entries-requires c κs =
 
 check-new-requires : tie.Need-check-new-requires
 check-new-requires c κs =
-    let args = c .before .before .before .before .before .before .before .before .before .before .before .before .before .before .args in
     let pre = c .before .before .before .before .before .before .before .before .before .before .before .before .before .before .pre in
     let first-of = c .before .before .before .before .before .before .before .before .before .before .before .first-of in
     let second-of = c .before .before .before .before .before .before .before .before .before .before .second-of in
@@ -86,8 +77,7 @@ check-new-requires c κs =
     let entries-sound = c .before .before .before .before .before .before .entries-sound in
     let if4 = c .before .before .before .before .before .if4 in
     let load-entries = c .before .before .before .load-entries in
-    many-fresh (args .store .now) (args .scratch .now) (args .context) (args .pool) (pre .0) (pre .1) (pre .2) (first-of .result)
-    (second-of .result) (first-of .ensures) (second-of .ensures) (if1 .left) (omega arith) (omega (arith, if1 .left, pre .0 .within))
+    many-fresh (pre .0) (pre .1) (pre .2) (first-of .ensures) (second-of .ensures) (if1 .left) (omega arith) (omega (arith, if1 .left, pre .0 .within))
     (rw (not-false (entries-sound .result) (if4 .left)) at (entries-sound .ensures)) (load-entries .last .1 .0) (load-entries .ensures)
 
 add-t17 : tie.Need-add-t17
@@ -97,7 +87,6 @@ add-t17 c =
 
 returns-5 : tie.Need-returns-5
 returns-5 c =
-    let args = c .before .before .before .before .before .before .before .before .before .before .before .before .before .before .before .before .before .before .args in
     let pre = c .before .before .before .before .before .before .before .before .before .before .before .before .before .before .before .before .before .before .pre in
     let first-of = c .before .before .before .before .before .before .before .before .before .before .before .before .before .before .before .first-of in
     let second-of = c .before .before .before .before .before .before .before .before .before .before .before .before .before .before .second-of in
@@ -106,14 +95,12 @@ returns-5 c =
     let if4 = c .before .before .before .before .before .before .before .before .before .if4 in
     let load-entries = c .before .before .before .before .before .before .before .load-entries in
     let check-new = c .before .before .before .check-new in
-    many-good (args .store .now) (args .scratch .now) (args .context) (args .pool) (pre .0) (pre .1) (pre .2) (first-of .result)
-    (second-of .result) (first-of .ensures) (second-of .ensures) (if1 .left) (omega arith) (omega (arith, if1 .left, pre .0 .within))
+    many-good (pre .0) (pre .1) (pre .2) (first-of .ensures) (second-of .ensures) (if1 .left) (omega arith) (omega (arith, if1 .left, pre .0 .within))
     (rw (not-false (entries-sound .result) (if4 .left)) at (entries-sound .ensures)) (load-entries .last .1 .0) (load-entries .ensures)
     (check-new .last .1 .0) (rw (c .if5 .taken) at (check-new .ensures))
 
 returns-6 : tie.Need-returns-6
 returns-6 c =
-    let args = c .before .before .before .before .before .before .before .before .before .before .before .before .before .before .before .before .before .before .args in
     let pre = c .before .before .before .before .before .before .before .before .before .before .before .before .before .before .before .before .before .before .pre in
     let first-of = c .before .before .before .before .before .before .before .before .before .before .before .before .before .before .before .first-of in
     let second-of = c .before .before .before .before .before .before .before .before .before .before .before .before .before .before .second-of in
@@ -122,8 +109,7 @@ returns-6 c =
     let if4 = c .before .before .before .before .before .before .before .before .before .if4 in
     let load-entries = c .before .before .before .before .before .before .before .load-entries in
     let check-new = c .before .before .before .check-new in
-    many-bad (args .store .now) (args .scratch .now) (args .context) (args .pool) (pre .0) (pre .1) (pre .2) (first-of .result)
-    (second-of .result) (first-of .ensures) (second-of .ensures) (if1 .left) (omega arith) (omega (arith, if1 .left, pre .0 .within))
+    many-bad (pre .0) (pre .1) (pre .2) (first-of .ensures) (second-of .ensures) (if1 .left) (omega arith) (omega (arith, if1 .left, pre .0 .within))
     (rw (not-false (entries-sound .result) (if4 .left)) at (entries-sound .ensures)) (load-entries .last .1 .0) (load-entries .ensures)
     (check-new .last .1 .0) (rw (c .if5 .left) at (check-new .ensures))
 

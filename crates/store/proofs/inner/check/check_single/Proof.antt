@@ -17,22 +17,18 @@ second-of-requires c κs =
 
 returns : tie.Need-returns
 returns c =
-    let args = c .before .before .before .before .before .args in
     let pre = c .before .before .before .before .before .pre in
     let first-of = c .before .before .first-of in (
-      single-not-older (args .store .now) (args .scratch .now) (args .context) (args .pool) (pre .0) (pre .1) (pre .2) (first-of .result)
-          (c .before .second-of .result) (first-of .ensures) (c .before .second-of .ensures) (c .if1 .taken),
+      single-not-older (pre .0) (pre .1) (pre .2) (first-of .ensures) (c .before .second-of .ensures) (c .if1 .taken),
       pre .0 .index .sized,
     )
 
 returns-2 : tie.Need-returns-2
 returns-2 c =
-    let args = c .before .before .before .before .before .before .args in
     let pre = c .before .before .before .before .before .before .pre in
     let first-of = c .before .before .before .first-of in
     let second-of = c .before .before .second-of in (
-      single-stop (args .store .now) (args .scratch .now) (args .context) (args .pool) (pre .0) (pre .1) (pre .2) (first-of .result)
-          (second-of .result) (first-of .ensures) (second-of .ensures) (c .if2 .taken),
+      single-stop (pre .0) (pre .1) (pre .2) (first-of .ensures) (second-of .ensures) (c .if2 .taken),
       pre .0 .index .sized,
     )
 
@@ -43,36 +39,30 @@ put-entry-requires c κs =
 
 check-new-requires : tie.Need-check-new-requires
 check-new-requires c κs =
-    let args = c .before .before .before .before .before .before .before .before .before .before .before .args in
     let pre = c .before .before .before .before .before .before .before .before .before .before .before .pre in
     let first-of = c .before .before .before .before .before .before .before .before .first-of in
     let second-of = c .before .before .before .before .before .before .before .second-of in
     let put-entry = c .before .before .before .put-entry in
-    read-fresh (args .store .now) (args .scratch .now) (args .context) (args .pool) (pre .0) (pre .1) (pre .2) (first-of .result)
-    (second-of .result) (first-of .ensures) (second-of .ensures) (omega arith) (omega arith) (put-entry .last .0) (put-entry .ensures)
+    read-fresh (pre .0) (pre .1) (pre .2) (first-of .ensures) (second-of .ensures) (omega arith) (omega arith) (put-entry .last .0) (put-entry .ensures)
 
 returns-3 : tie.Need-returns-3
 returns-3 c =
-    let args = c .before .before .before .before .before .before .before .before .before .before .before .before .before .before .before .args in
     let pre = c .before .before .before .before .before .before .before .before .before .before .before .before .before .before .before .pre in
     let first-of = c .before .before .before .before .before .before .before .before .before .before .before .before .first-of in
     let second-of = c .before .before .before .before .before .before .before .before .before .before .before .second-of in
     let put-entry = c .before .before .before .before .before .before .before .put-entry in
     let check-new = c .before .before .before .check-new in
-    read-good (args .store .now) (args .scratch .now) (args .context) (args .pool) (pre .0) (pre .1) (pre .2) (first-of .result)
-    (second-of .result) (first-of .ensures) (second-of .ensures) (omega arith) (omega arith) (put-entry .last .0) (put-entry .ensures)
+    read-good (pre .0) (pre .1) (pre .2) (first-of .ensures) (second-of .ensures) (omega arith) (omega arith) (put-entry .last .0) (put-entry .ensures)
     (check-new .last .1 .0) (rw (c .if3 .taken) at (check-new .ensures))
 
 returns-4 : tie.Need-returns-4
 returns-4 c =
-    let args = c .before .before .before .before .before .before .before .before .before .before .before .before .before .before .before .args in
     let pre = c .before .before .before .before .before .before .before .before .before .before .before .before .before .before .before .pre in
     let first-of = c .before .before .before .before .before .before .before .before .before .before .before .before .first-of in
     let second-of = c .before .before .before .before .before .before .before .before .before .before .before .second-of in
     let put-entry = c .before .before .before .before .before .before .before .put-entry in
     let check-new = c .before .before .before .check-new in
-    read-bad (args .store .now) (args .scratch .now) (args .context) (args .pool) (pre .0) (pre .1) (pre .2) (first-of .result)
-    (second-of .result) (first-of .ensures) (second-of .ensures) (omega arith) (omega arith) (put-entry .last .0) (put-entry .ensures)
+    read-bad (pre .0) (pre .1) (pre .2) (first-of .ensures) (second-of .ensures) (omega arith) (omega arith) (put-entry .last .0) (put-entry .ensures)
     (check-new .last .1 .0) (rw (c .if3 .left) at (check-new .ensures))
 
 pub check-single-spec : {M : Type 1} → statement M

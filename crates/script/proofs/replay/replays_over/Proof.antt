@@ -7,8 +7,8 @@ use borrow.Author.Tests.{not-true, not-false}
 use lib.ListN.{length}
 use Rattle.script.specs.declared.run.Ran.the-variants.{Next, Over}
 use Rattle.script.specs.Replayed.{Told, told-fresh, affirmed, denied, told-forward, told-next, told-not, over-all, over-not, told-all}
-use Rattle.script.proofs.replay.replays.Statement.{statement}
-use Rattle.script.proofs.replay.replays.Tie as tie
+use Rattle.script.proofs.replay.replays_over.Statement.{statement}
+use Rattle.script.proofs.replay.replays_over.Tie as tie
 
 abbrev Inv-loop : tie.InvT-loop
 Inv-loop script answer store₀ scratch₀ out₀ at₀ told₀ store scratch out at told = Told script answer at told store scratch
@@ -116,8 +116,8 @@ returns-3 c =
     (affirmed (agrees2 .result) (not-false _ (if2 .left)) (agrees2 .ensures)))
     (c .agrees-last .ensures)
 
-pub replays-spec : {M : Type 1} → statement M
-replays-spec =
+pub replays-over-spec : {M : Type 1} → statement M
+replays-over-spec =
     tie.close
     (tie.spec
     Inv-loop

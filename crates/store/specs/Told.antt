@@ -1,0 +1,59 @@
+-- A reply tells its answer: a refusal's number is no other refusal's.
+use mathlib.Core.Path.{_≡_, refl, sym, ap, _∙_}
+use mathlib.Core.Bool.{true}
+use mathlib.Core.List.{List, [], _∷_}
+use Prim.Native.Nat.{ℕ}
+use lib.ListN.{getD}
+use Rattle.words.specs.declared.refusals.Refusal.{Refusal}
+use Rattle.words.specs.declared.refusals.Refusal.the-variants.{WrongLength, UnsoundStore, UnsoundSet, TooManyStops, ReadOnlySet, UnknownContext, StateOutOfRange, FullSet, FullStore, MalformedRecord}
+use Rattle.words.specs.Refusals.{number}
+use Rattle.arena.specs.Store.{dollar}
+use Rattle.layout.specs.Encode.{wordsOf}
+use Rattle.encoding.specs.Good.{fresh-good}
+use Rattle.encoding.specs.Decide.{sound, words-sound}
+use Rattle.store.specs.Calls.{Reply, refused, freshCall}
+use Rattle.store.specs.Renewed.{renewed}
+use Rattle.store.specs.declared.renew.Renewed.{Renewed}
+use Rattle.store.specs.declared.renew.Renewed.the-variants.{Done, Refused}
+
+-- by number from 0 on; 0 is none's
+refusals : List Refusal
+refusals =
+    WrongLength ∷ UnsoundStore ∷ WrongLength ∷ UnsoundSet ∷ UnknownContext ∷ StateOutOfRange ∷ FullStore ∷ ReadOnlySet ∷ FullSet
+    ∷ MalformedRecord ∷ TooManyStops ∷ []
+
+numbered : (f : Refusal) → getD refusals (number f) WrongLength ≡ f
+unfolding refusals
+numbered WrongLength = refl
+numbered UnsoundStore = refl
+numbered UnsoundSet = refl
+numbered TooManyStops = refl
+numbered ReadOnlySet = refl
+numbered UnknownContext = refl
+numbered StateOutOfRange = refl
+numbered FullSet = refl
+numbered FullStore = refl
+numbered MalformedRecord = refl
+
+pub number-tells : (f g : Refusal) → refused (number f) ≡ refused (number g) → f ≡ g
+number-tells f g e =
+    let n : number f ≡ number g = cc in
+    sym (numbered f) ∙ ap (λ (k : ℕ). getD refusals k WrongLength) n ∙ numbered g
+
+-- ---- a fresh store
+
+-- two outcomes of `fresh` that satisfy its contract for the same words are equal
+renewed-tells : (a b : Renewed) → renewed a ≡ renewed b → a ≡ b
+renewed-tells Done Done e = refl
+renewed-tells Done (Refused g) e = cc
+renewed-tells (Refused f) Done e = cc
+renewed-tells (Refused f) (Refused g) e = ap Refused (number-tells f g e)
+
+pub fresh-determined : (w : List ℕ) (a b : Renewed) (u v : List ℕ) → (renewed a, u) ≡ freshCall w → (renewed b, v) ≡ freshCall w → (a ≡ b) × (u ≡ v)
+fresh-determined w a b u v p q =
+    let e : _≡_ {A = Reply × List ℕ} (renewed a, u) (renewed b, v) = p ∙ sym q in
+    (renewed-tells a b (ap (λ (x : Reply × List ℕ). x .0) e), ap (λ (x : Reply × List ℕ). x .1) e)
+
+-- its words are sound
+pub fresh-sound : sound (wordsOf (dollar ∷ [])) ≡ true
+fresh-sound = words-sound (dollar ∷ []) fresh-good
