@@ -55,6 +55,17 @@ fn push_array(store: &mut [u32], scratch: &mut [u32], at: usize, n: usize, hash:
     Made::At(ContextId(count as u32))
 }
 
+// Makes a context of the n entries on the stack, which no record has.
+fn push_new(store: &mut [u32], scratch: &mut [u32], at: usize, n: usize, hash: u64) -> Made
+    requires { ⌜ Missing (now store) (now scratch) at n hash ⌝ }
+    ensures { λ r. ⌜ Interns (now (store .entry)) (now (scratch .entry)) at n r (now (store .exit)) (now (scratch .exit)) ⌝ }
+{
+    if n == 1 {
+        return push_single(store, scratch, at, hash);
+    }
+    push_array(store, scratch, at, n, hash)
+}
+
 // The number of the n entries on the stack, one at least and not `$` alone.
 fn intern_proper(store: &mut [u32], scratch: &mut [u32], at: usize, n: usize) -> Made
     requires { ⌜ Pushed (now store) (now scratch) at n × Proper (now scratch) at n ⌝ }
@@ -63,13 +74,10 @@ fn intern_proper(store: &mut [u32], scratch: &mut [u32], at: usize, n: usize) ->
     let hash = index::entries_hash(scratch, at, n);
     let count = index::count_of(store) as usize;
     let found = index::find_interned(store, scratch, count, at, n, hash);
-    if let Lookup::At(context) = found {
-        return Made::At(context);
-    }
-    if n == 1 {
-        return push_single(store, scratch, at, hash);
-    }
-    push_array(store, scratch, at, n, hash)
+    let Lookup::At(context) = found else {
+        return push_new(store, scratch, at, n, hash);
+    };
+    Made::At(context)
 }
 
 // The number of the n entries on the stack: of none, or of `$` alone, it is 0.

@@ -14,3 +14,4 @@ pub mod Whole
 pub mod Replayed
 pub mod Examples
 pub mod Determined
+pub mod Leads

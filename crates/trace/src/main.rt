@@ -4,6 +4,7 @@ use libc::STDOUT_FILENO;
 use script::Ran;
 ghost use Prim.Native.Nat.{_≤_};
 ghost use lib.ListN.{length};
+ghost use Rattle.script.specs.Leads.{Leads};
 
 // Writes the reply that stands at the start of `out`.
 fn write_reply(out: &[u8], wrote: usize)
@@ -13,7 +14,9 @@ fn write_reply(out: &[u8], wrote: usize)
 }
 
 // Runs the records one after the other and writes each reply as it comes.
-fn run_script(bytes: &[u8], store: &mut [u32], scratch: &mut [u32], out: &mut [u8; 40000]) {
+fn run_script(bytes: &[u8], store: &mut [u32], scratch: &mut [u32], out: &mut [u8; 40000])
+    ensures { λ _. ⌜ Leads (now (bytes .entry)) 0 (now (store .entry)) (now (scratch .entry)) (now (store .exit)) ⌝ }
+{
     let mut at = 0;
     loop {
         let ran = script::run_step(bytes, at, store, scratch, out);
