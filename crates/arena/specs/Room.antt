@@ -3,7 +3,7 @@ use mathlib.Core.List.{[], _∷_, _++_}
 use Prim.Native.Nat.{ℕ, _≤_, _+_}
 use native.Mathlib.Omega.{arith}
 use lib.ListN.{length}
-use Rattle.arena.specs.Store.{Node, end, Store}
+use Rattle.arena.specs.Store.{Node, Store}
 use Rattle.arena.specs.Placed.{Grew, grew-length}
 use Rattle.arena.specs.Kinds.{context0, singleton, array, kindOf, size}
 

@@ -8,7 +8,7 @@ use lib.Dec.{eqb}
 use lib.ListN.{length}
 use borrow.Author.Tests.{eq-eqb, ne-eqb, eqb-true}
 use Rattle.stacks.specs.Compare.{two}
-use Rattle.stacks.specs.Forest.{Forest, over, Some, From, Canon}
+use Rattle.stacks.specs.Forest.{Forest, Some, From, Canon}
 use Rattle.arena.specs.Store.{Node, end, dollar, push, Store, treeOf, tree, nodeAt, same, Found, at, nowhere, find, Rise, Full, Sound}
 
 -- ---- equal records

@@ -9,7 +9,7 @@ use Rattle.arena.specs.Store.{nodeAt}
 use Rattle.arena.specs.Kinds.{size}
 use Rattle.arena.specs.Room.{room}
 use Rattle.arena.specs.Place.{mergeS}
-use Rattle.layout.specs.Layout.{storeWords, kind, first, second, parent, state, stackParent, stackState}
+use Rattle.layout.specs.Layout.{storeWords, first, second, parent, state, stackParent, stackState}
 use Rattle.layout.specs.Decode.{storeOf}
 use Rattle.contexts.specs.Live.{live-length}
 use Rattle.contexts.specs.Write.{many-room}

@@ -9,7 +9,7 @@ use Rattle.arena.specs.Store.{tree}
 use Rattle.arena.specs.Place.{place, mergeS}
 use Rattle.layout.specs.Layout.{stop}
 use Rattle.layout.specs.Decode.{storeOf}
-use Rattle.store.specs.Calls.{Reply, refused, context, Left, kept, ifKnown, grown}
+use Rattle.store.specs.Calls.{refused, context, Left, kept, ifKnown, grown}
 use Rattle.store.specs.Admit.{checked}
 
 -- the empty mark answers 0; 5: a return state from 4294967295 to 18446744073709551614

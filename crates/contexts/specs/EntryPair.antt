@@ -2,13 +2,13 @@
 use mathlib.Core.Path.{_≡_, refl, ap, _∙_}
 use mathlib.Core.Bool.{Bool}
 use mathlib.Core.List.{List}
-use Prim.Native.Nat.{ℕ, _<_, _≤_, _+_}
+use Prim.Native.Nat.{ℕ, _<_, _+_}
 use native.Mathlib.Omega.{arith}
 use Rattle.arena.specs.Store.{Node, end, nodeAt}
 use Rattle.arena.specs.Kinds.{size}
 use Rattle.arena.specs.Room.{room}
 use Rattle.arena.specs.Place.{mergeS, intern}
-use Rattle.layout.specs.Layout.{first, stackParent, stackState}
+use Rattle.layout.specs.Layout.{stackParent, stackState}
 use Rattle.layout.specs.Listing.{listing}
 use Rattle.layout.specs.Decode.{storeOf}
 use Rattle.layout.specs.Encode.{Fits}

@@ -16,7 +16,7 @@ use Rattle.index.specs.Records.{stackNode}
 use Rattle.index.specs.Stores.{Loaded}
 use Rattle.index.specs.Load.{loaded-node, loaded-entries}
 use Rattle.index.specs.Walk.{entries-from}
-use Rattle.contexts.specs.Live.{Live, Pushed, live-sound, live-count, live-length}
+use Rattle.contexts.specs.Live.{Live, Pushed, live-sound, live-count}
 use Rattle.contexts.specs.Interned.{Interns}
 use Rattle.contexts.specs.Rest.{headState, rest, rest-listing, entry-listing}
 use Rattle.contexts.specs.Onto.{onto, onto-listing}

@@ -2,12 +2,12 @@
 use mathlib.Core.Path.{_≡_, refl, sym, _∙_}
 use mathlib.Core.Bool.{Bool}
 use mathlib.Core.List.{List}
-use Prim.Native.Nat.{ℕ, suc, _<_, _≤_, _+_}
+use Prim.Native.Nat.{ℕ, _<_, _≤_, _+_}
 use native.Mathlib.Omega.{arith}
 use native.Mathlib.Numerals.{add-one}
 use lib.ListN.{length}
 use Rattle.stacks.specs.Compare.{two}
-use Rattle.arena.specs.Store.{Node, end, nodeAt}
+use Rattle.arena.specs.Store.{Node, nodeAt}
 use Rattle.arena.specs.Kinds.{size}
 use Rattle.arena.specs.Room.{room}
 use Rattle.arena.specs.Place.{mergeS, intern}
@@ -20,10 +20,10 @@ use Rattle.contexts.specs.Rest.{headState, headParent, rest}
 use Rattle.contexts.specs.Onto.{onto}
 use Rattle.contexts.specs.Ends.{ends, ends-grew}
 use Rattle.contexts.specs.Merging.{Mergeable, Merged, Stuck, Outcome, Merging, Sorted, merging-start, take-left, take-right, take-both, no-inner, left-done, right-done}
-use Rattle.contexts.specs.Finish.{Extends, whole}
+use Rattle.contexts.specs.Finish.{Extends}
 use Rattle.contexts.specs.Cycle.{sorted-of, by-entries, extended, stuck-inside}
 use Rattle.contexts.specs.Now.{head-before, head-le}
-use Rattle.contexts.specs.Given.{Unsettled, Fitting}
+use Rattle.contexts.specs.Given.{Fitting}
 use Rattle.contexts.specs.declared.intern.Made.{Made}
 
 -- a and b of w₀ are merged: i and j entries are taken, n are on the stack

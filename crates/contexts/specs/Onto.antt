@@ -3,7 +3,7 @@ use mathlib.Core.Path.{_≡_, refl, sym, ap, _∙_}
 use Prim.Native.Nat.{ℕ, zero, suc, _<_, _≤_, _+_}
 use native.Mathlib.Omega.{arith}
 use Rattle.stacks.specs.Compare.{two}
-use Rattle.arena.specs.Store.{Node, end}
+use Rattle.arena.specs.Store.{Node}
 use Rattle.layout.specs.Layout.{stop}
 use Rattle.layout.specs.Listing.{listing, listing-stop, listing-more}
 use Rattle.contexts.specs.Rest.{cons, cons-stop, cons-push}

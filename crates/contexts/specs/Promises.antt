@@ -4,16 +4,16 @@ use mathlib.Core.Path.{_≡_, refl, sym, ap, _∙_}
 use mathlib.Core.Bool.{Bool, true, false, _&&_, _||_, or-false}
 use mathlib.Core.List.{List, [], _∷_}
 use mathlib.Core.Logic.{_↔_, _⊎_, inl, inr, ⊎-elim}
-use Prim.Native.Nat.{ℕ, _<_, _≤_}
+use Prim.Native.Nat.{ℕ, _<_}
 use native.Mathlib.Omega.{arith}
 use lib.Dec.{eqb, ltb}
 use lib.ListN.{length}
 use borrow.Author.Tests.{eqb-true, ltb-true}
 use Rattle.words.specs.Names.{emptyMark}
 use Rattle.stacks.specs.Forest.{Forest, none, over, mem}
-use Rattle.stacks.specs.Rules.{MergeRule, WildcardMerge, full-merge, merge-rule}
+use Rattle.stacks.specs.Rules.{MergeRule, WildcardMerge, merge-rule}
 use Rattle.arena.specs.Store.{Store, tree, Sound}
-use Rattle.arena.specs.Trees.{tree-canon, and-left, and-right}
+use Rattle.arena.specs.Trees.{tree-canon, and-left}
 use Rattle.arena.specs.Identity.{stands, same-stacks}
 use Rattle.arena.specs.Place.{place, mergeS}
 use Rattle.arena.specs.Placed.{Grew, grew-tree, place-grew, Holds, place-holds}
@@ -25,13 +25,12 @@ use Rattle.layout.specs.Layout.{storeWords, stop}
 use Rattle.layout.specs.Layout.{count as contexts}
 use Rattle.layout.specs.Decode.{storeOf, store-length}
 use Rattle.layout.specs.Encode.{Fits, wordsOf}
-use Rattle.layout.specs.Sound.{SoundWords}
 use Rattle.encoding.specs.Good.{GoodStore}
 use Rattle.encoding.specs.Encoded.{store-of-words}
 use Rattle.encoding.specs.Decoded.{decoded}
 use Rattle.encoding.specs.Decide.{sound, sound-true, words-sound, fits, fits-true}
 use Rattle.encoding.specs.Written.{words-count}
-use Rattle.store.specs.Calls.{Reply, refused, context, Left, determined, kept, ifLengths, ifSound, ifKnown, grown}
+use Rattle.store.specs.Calls.{refused, context, Left, determined, ifLengths, ifSound, ifKnown, grown}
 use Rattle.encoding.specs.Places.{below?}
 use Rattle.store.specs.Admit.{checked, known-goes, unknown}
 use Rattle.store.specs.Calls.{left}

@@ -6,7 +6,7 @@ ghost use mathlib.Core.Path.{_≡_};
 ghost use Prim.Native.Nat.{_+_, _<_};
 ghost use lib.ListN.{length};
 ghost use Rattle.arena.specs.Store.{nodeAt};
-ghost use Rattle.layout.specs.Layout.{count, first, kind, parent, state};
+ghost use Rattle.layout.specs.Layout.{first, parent, state};
 ghost use Rattle.layout.specs.Decode.{storeOf};
 ghost use Rattle.contexts.specs.Finish.{Extends, Finishing, whole};
 ghost use Rattle.contexts.specs.Last.{Lasting, Plain, withLast};

@@ -5,7 +5,6 @@ use index::Lookup;
 use store::inner::cut::put_counts;
 use words::COMPACT_EMPTY_RETURN_STATE;
 use words::ContextId;
-ghost use mathlib.Core.Path.{_≡_};
 ghost use Prim.Native.Nat.{_≤_};
 ghost use Rattle.contexts.specs.Interned.{Interns, Missing};
 ghost use Rattle.contexts.specs.Live.{Pushed};

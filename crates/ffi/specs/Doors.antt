@@ -1,5 +1,5 @@
 -- What the doors' structs stand for: the reply that each is read back as, and the one struct for each reply.
-use mathlib.Core.Bool.{Bool, true, false}
+use mathlib.Core.Bool.{true, false}
 use Prim.Native.Nat.{ℕ}
 use lib.Dec.{eqb}
 use Rattle.store.specs.Calls.{Reply, refused, done, shown, context, count, state, holds, none}

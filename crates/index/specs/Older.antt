@@ -1,8 +1,8 @@
 -- The oldest k contexts of a store.
-use mathlib.Core.Path.{_≡_, refl, sym, _∙_}
+use mathlib.Core.Path.{_≡_, refl, sym}
 use mathlib.Core.Bool.{true, false}
-use mathlib.Core.List.{List, [], _∷_}
-use Prim.Native.Nat.{ℕ, zero, suc, _<_, _≤_}
+use mathlib.Core.List.{[], _∷_}
+use Prim.Native.Nat.{ℕ, suc, _<_, _≤_}
 use native.Mathlib.Omega.{arith}
 use lib.Dec.{ltb}
 use lib.ListN.{length}
@@ -10,7 +10,6 @@ use borrow.Author.Tests.{lt-ltb, le-ltb}
 use Rattle.stacks.specs.Compare.{two}
 use Rattle.arena.specs.Store.{Node, Store, nodeAt, Sound}
 use Rattle.arena.specs.Trees.{node-new, node-old}
-use Rattle.layout.specs.Decode.{nodeIn, storeIn, store-length}
 
 unfoldable pub older : Store → ℕ → Store
 older [] k = []

@@ -1,9 +1,7 @@
 -- What each case of an answer is, as a reply, and what a query leaves as a whole.
 use mathlib.Core.Bool.{true, false}
-use mathlib.Core.List.{List}
-use Prim.Native.Nat.{ℕ}
 use Rattle.words.specs.Refusals.{number}
-use Rattle.store.specs.Calls.{Reply, refused, context, count, state, holds, none, Left}
+use Rattle.store.specs.Calls.{Reply, refused, context, count, state, holds, none}
 use Rattle.queries.specs.declared.answers.Counted.{Counted}
 use Rattle.queries.specs.declared.answers.Counted.the-variants.{Count, Refused as notCounted}
 use Rattle.queries.specs.declared.answers.Answered.{Answered}

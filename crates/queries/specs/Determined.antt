@@ -1,9 +1,9 @@
 -- Two outcomes of a query that satisfy its contract for the same input are equal: the answers, case and value, and every word.
-use mathlib.Core.Path.{_≡_, refl, sym, ap, _∙_}
-use mathlib.Core.List.{List, [], _∷_}
+use mathlib.Core.Path.{_≡_, refl, ap}
+use mathlib.Core.List.{List, []}
 use Prim.Native.Nat.{ℕ}
 use Rattle.store.specs.Told.{number-tells}
-use Rattle.store.specs.Calls.{Reply, refused, Left, determined}
+use Rattle.store.specs.Calls.{Reply, Left, determined}
 use Rattle.queries.specs.declared.answers.Counted.{Counted}
 use Rattle.queries.specs.declared.answers.Counted.the-variants.{Count, Refused as notCounted}
 use Rattle.queries.specs.declared.answers.Answered.{Answered}

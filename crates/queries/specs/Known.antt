@@ -15,10 +15,9 @@ use Rattle.stacks.specs.Merge.{isMark}
 use Rattle.arena.specs.Store.{Node, end, dollar, push, tree, nodeAt, Sound}
 use Rattle.arena.specs.Kinds.{size}
 use Rattle.arena.specs.Identity.{tree-root, not-root, entriesStand, record-stands}
-use Rattle.layout.specs.Layout.{storeWords, stop, count, kind, first, second, parent, state}
+use Rattle.layout.specs.Layout.{stop, count, kind, first, second, parent, state}
 use Rattle.layout.specs.Listing.{Entries, listing, listing-size}
 use Rattle.layout.specs.Decode.{nodeIn, storeOf, store-length, store-node, node-zero, node-one, node-many}
-use Rattle.layout.specs.Sound.{SoundWords}
 use Rattle.encoding.specs.Reads.{kind?, kind-zero, single-reads, array-entries, array-fits}
 use Rattle.encoding.specs.Decoded.{store-sound}
 use Rattle.store.specs.Asks.{Known}

@@ -8,7 +8,7 @@ use Rattle.words.specs.Names.{emptyMark}
 use Rattle.words.specs.Names.Laws.{expanded-mark}
 use Rattle.arena.specs.Store.{Node, end, dollar, push, nodeAt}
 use Rattle.arena.specs.Kinds.{size}
-use Rattle.layout.specs.Layout.{storeWords, stop, kind, first, second, parent}
+use Rattle.layout.specs.Layout.{storeWords, stop, kind, first, second}
 use Rattle.layout.specs.Layout.{state as stateWord}
 use Rattle.layout.specs.Decode.{storeOf}
 use Rattle.layout.specs.Sound.{SoundWords}

@@ -1,6 +1,5 @@
 -- What the answers of this crate stand for.
 pub mod Laws
-use mathlib.Core.Bool.{Bool}
 use mathlib.Core.List.{List}
 use Prim.Native.Nat.{ℕ}
 use lib.ListN.{length}

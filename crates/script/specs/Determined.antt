@@ -1,6 +1,5 @@
 -- Two outcomes that satisfy a contract for the same input are equal: the answer, case and value, and every byte and word.
 use mathlib.Core.Path.{_≡_, refl, sym, ap, _∙_}
-use mathlib.Core.Bool.{Bool}
 use mathlib.Core.List.{List}
 use Prim.Native.Nat.{ℕ}
 use Rattle.script.specs.declared.records.Record.{Record}
@@ -12,7 +11,7 @@ use Rattle.script.specs.declared.run.Ran.the-variants.{Next, Over}
 use Rattle.script.specs.Format.{readAt}
 use Rattle.script.specs.Laid.{Wrote}
 use Rattle.script.specs.Lines.{endLine}
-use Rattle.script.specs.Steps.{stepOf, After}
+use Rattle.script.specs.Steps.{stepOf}
 use Rattle.script.specs.Answers.{callIn, reading, afterOf, wroteOf, Behind, behind, laidOut}
 
 call-tells : (a b : Record) → callIn a ≡ callIn b → a ≡ b

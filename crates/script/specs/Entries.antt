@@ -3,13 +3,12 @@ pub mod Laws
 use mathlib.Core.Path.{_≡_}
 use mathlib.Core.Bool.{true, false}
 use mathlib.Core.List.{List, [], _∷_, _++_}
-use Prim.Native.Nat.{ℕ, _+_, _<_, _≤_}
+use Prim.Native.Nat.{ℕ, _+_, _≤_}
 use lib.Dec.{eqb}
 use lib.ListN.{length}
-use Rattle.layout.specs.Layout.{storeWords, mostContexts, mostEntries, stop, count, parent, state}
+use Rattle.layout.specs.Layout.{storeWords, mostContexts, mostEntries, stop, parent, state}
 use Rattle.arena.specs.Store.{Node}
 use Rattle.layout.specs.Listing.{listing, Entries}
-use Rattle.layout.specs.Sound.{SoundWords}
 use Rattle.script.specs.Decimal.{decimal}
 use Rattle.script.specs.Lines.{spaced}
 

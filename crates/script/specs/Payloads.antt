@@ -1,6 +1,6 @@
 -- The payload that each kind of record must have. Assumes nothing: these are definitions.
 pub mod Laws
-use mathlib.Core.Bool.{Bool, true, false}
+use mathlib.Core.Bool.{Bool, false}
 use mathlib.Core.List.{List, [], _∷_}
 use Prim.Native.Nat.{ℕ, _%_}
 use lib.Dec.{eqb}

@@ -4,7 +4,6 @@ use crate::digits::put_spaced;
 use contexts::Numbered;
 ghost use mathlib.Core.Path.{_≡_};
 ghost use mathlib.Core.List.{[]};
-ghost use Prim.Native.Nat.{_≤_};
 ghost use lib.ListN.{getD, length};
 ghost use Rattle.contexts.specs.Replies.{numbered};
 ghost use Rattle.script.specs.Laid.{Wrote};

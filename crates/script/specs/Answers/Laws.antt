@@ -3,26 +3,23 @@ use mathlib.Core.Path.{_≡_, refl, sym, ap, _∙_}
 use mathlib.Core.List.{List, []}
 use Prim.Native.Nat.{ℕ, _<_, _≤_}
 use native.Mathlib.Omega.{arith}
-use lib.ListN.{length, replicate}
+use lib.ListN.{length}
 use borrow.Author.Tests.{lt-ltb, le-ltb}
 use Rattle.words.specs.Refusals.{number}
 use Rattle.words.specs.declared.refusals.Refusal.{Refusal}
 use Rattle.arena.specs.Store.{nodeAt}
-use Rattle.layout.specs.Layout.{count}
 use Rattle.layout.specs.Decode.{storeOf}
-use Rattle.store.specs.Calls.{refused, shown, Left}
+use Rattle.store.specs.Calls.{shown, Left}
 use Rattle.store.specs.Asks.{Asks}
 use Rattle.store.specs.declared.inner.admit.Admitted.{Admitted}
 use Rattle.store.specs.declared.inner.admit.Admitted.the-variants.{Ready as ready, Refused}
 use Rattle.store.specs.Calls.{left}
-use Rattle.contexts.specs.Calls.{singletonCall, mergeCall}
 use Rattle.contexts.specs.Replies.{numbered}
 use Rattle.contexts.specs.declared.single.Numbered.{Numbered}
 use Rattle.script.specs.declared.run.Ran.the-variants.{Next, Over}
 use Rattle.script.specs.Format.{show, Reading, found, ended, malformed, readAt}
 use Rattle.script.specs.Format.{Record as Call}
 use Rattle.script.specs.Laid.{laid, Wrote}
-use Rattle.script.specs.Laid.Laws.{laid-none, wrote-none}
 use Rattle.script.specs.Lines.{numberLine, refusalLine, entriesLine}
 use Rattle.script.specs.Steps.{mostBytes, lineOf, Printed, printed, callOf, stays, readingStep, stepOf, Stepped, goes}
 use Rattle.script.specs.Steps.Laws.{step-forward}

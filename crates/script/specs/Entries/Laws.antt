@@ -1,14 +1,14 @@
 -- Entries laid out one after the other; that the longest line of them has room; and the line of a known context by its record's kind.
 use mathlib.Core.Path.{_≡_, refl, sym, ap, _∙_}
 use mathlib.Core.List.{List, [], _∷_, _++_, append-nil}
-use Prim.Native.Nat.{ℕ, zero, suc, _+_, _-_, _*_, _^_, _<_, _≤_}
+use Prim.Native.Nat.{ℕ, zero, suc, _+_, _-_, _*_, _<_, _≤_}
 use native.Mathlib.Omega.{arith}
 use lib.ListN.{length, length-append}
 use borrow.Author.Tests.{eq-eqb, ne-eqb}
 use Rattle.stacks.specs.Compare.{two}
-use Rattle.arena.specs.Store.{Node, end, dollar, push, nodeAt}
+use Rattle.arena.specs.Store.{dollar, nodeAt}
 use Rattle.arena.specs.Kinds.{size}
-use Rattle.layout.specs.Layout.{mostContexts, mostEntries, stop, count, used, kind, first, second, parent, state}
+use Rattle.layout.specs.Layout.{mostContexts, stop, count, kind, first, second, parent, state}
 use Rattle.layout.specs.Listing.{listing, Entries, listing-stop, listing-more, listing-size, stop-last, entries-rest, entries-le}
 use Rattle.layout.specs.Decode.{nodeIn, storeOf, store-node, node-zero, node-one, node-many}
 use Rattle.encoding.specs.Reads.{kind-most, single-reads, array-entries, array-fits}

@@ -1,17 +1,17 @@
 -- The format, decided test by test: what the code finds at each way out.
-use mathlib.Core.Path.{_≡_, refl, sym, ap, _∙_}
+use mathlib.Core.Path.{_≡_, refl, sym, _∙_}
 use mathlib.Core.Bool.{Bool, true, false}
 use mathlib.Core.List.{List}
 use Prim.Native.Nat.{ℕ, _+_, _-_, _<_, _≤_}
 use native.Mathlib.Omega.{arith}
 use lib.Dec.{eqb}
 use lib.ListN.{length, getD}
-use borrow.Author.Tests.{lt-ltb, le-ltb, le-leb, lt-leb, eq-eqb, ne-eqb}
+use borrow.Author.Tests.{lt-ltb, le-ltb, le-leb, lt-leb, ne-eqb}
 use Rattle.script.specs.Bytes.{u16At, u32At, u64At}
 use Rattle.script.specs.Payloads.{payloadOf, accepts}
 use Rattle.stacks.specs.Compare.{two}
 use Rattle.encoding.specs.Places.{below?}
-use Rattle.script.specs.Format.{Record, singleton, merge, show, Reading, found, ended, malformed, ifWell, payloadAt, recordAt, readAt}
+use Rattle.script.specs.Format.{Record, singleton, merge, show, found, ended, malformed, payloadAt, recordAt, readAt}
 
 -- ---- a payload, by its kind
 

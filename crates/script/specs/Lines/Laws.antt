@@ -1,5 +1,5 @@
 -- Lines laid out piece by piece.
-use mathlib.Core.Path.{_≡_, sym, ap, _∙_}
+use mathlib.Core.Path.{_≡_}
 use mathlib.Core.List.{List, [], _∷_, _++_}
 use Prim.Native.Nat.{ℕ}
 use Rattle.layout.specs.Layout.{count, used}

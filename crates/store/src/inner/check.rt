@@ -4,7 +4,7 @@ use words::COMPACT_EMPTY_RETURN_STATE;
 ghost use mathlib.Core.Path.{_≡_};
 ghost use Prim.Native.Nat.{_+_, _<_, _≤_};
 ghost use lib.ListN.{length};
-ghost use Rattle.layout.specs.Layout.{first, kind, parent, second, state};
+ghost use Rattle.layout.specs.Layout.{first, kind, parent, state};
 ghost use Rattle.layout.specs.Listing.{Entries};
 ghost use Rattle.store.specs.Check.{Above, AllJudged, EntryAt, FoundNew, Fresh, Judged, Passed, RootJudged, Tells, Unused, Verdict};
 

@@ -1,7 +1,7 @@
 -- The scripts that were walked, and what follows from there; a turn walks one more.
 use borrow.Author.Needs.{needs}
 use native.Mathlib.Omega.{arith}
-use mathlib.Core.Path.{_≡_, refl, sym, ap, _∙_}
+use mathlib.Core.Path.{refl}
 use Prim.Native.Nat.{_-_}
 use lib.ListN.{length}
 use Rattle.replay.specs.Sample.Laws.{Walked, walked-none, walked-more, walked-end, cut-script, cut-answer, one-at-most}

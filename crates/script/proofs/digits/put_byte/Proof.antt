@@ -1,6 +1,5 @@
 -- One byte is stored.
 use borrow.Author.Needs.{needs}
-use native.Mathlib.Omega.{arith}
 use Rattle.script.specs.Laid.Laws.{wrote-one}
 use Rattle.script.proofs.digits.put_byte.Statement.{statement}
 use Rattle.script.proofs.digits.put_byte.Tie as tie

@@ -1,7 +1,6 @@
 -- A space, then the number.
 use borrow.Author.Needs.{needs}
-use native.Mathlib.Omega.{arith}
-use Rattle.script.specs.Laid.Laws.{wrote-then, wrote-length}
+use Rattle.script.specs.Laid.Laws.{wrote-then}
 use Rattle.script.proofs.digits.put_spaced.Statement.{statement}
 use Rattle.script.proofs.digits.put_spaced.Tie as tie
 

@@ -1,7 +1,6 @@
 -- By the record's kind: `$`, a singleton's entry, or an array's.
 use borrow.Author.Needs.{needs}
-use native.Mathlib.Omega.{arith}
-use mathlib.Core.Path.{_≡_, refl, sym, ap, _∙_}
+use mathlib.Core.Path.{refl, sym, _∙_}
 use Rattle.script.specs.Entries.Laws.{known-few, known-kind, known-pool, line-zero, line-one, line-many}
 use Rattle.script.proofs.entries.lay_entries.Statement.{statement}
 use Rattle.script.proofs.entries.lay_entries.Tie as tie

@@ -1,7 +1,7 @@
 -- The heading, the entries, the line end: 15 bytes an entry are enough.
 use borrow.Author.Needs.{needs}
 use native.Mathlib.Omega.{arith}
-use Rattle.script.specs.Laid.Laws.{wrote-then, wrote-length}
+use Rattle.script.specs.Laid.Laws.{wrote-length}
 use Rattle.script.specs.Entries.Laws.{word-digits, pool-room}
 use Rattle.script.specs.Entries.{poolNode}
 use Rattle.script.specs.Lines.{entriesBytes}

@@ -1,7 +1,7 @@
 -- The heading, the entry, the line end: 40,000 bytes are more than enough.
 use borrow.Author.Needs.{needs}
 use native.Mathlib.Omega.{arith}
-use Rattle.script.specs.Laid.Laws.{wrote-then, wrote-length}
+use Rattle.script.specs.Laid.Laws.{wrote-length}
 use Rattle.script.specs.Entries.Laws.{word-digits, entry-any}
 use Rattle.script.specs.Entries.{entryBytes}
 use Rattle.script.specs.Lines.Laws.{headed-line}

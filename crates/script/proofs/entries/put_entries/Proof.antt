@@ -1,7 +1,6 @@
 -- What is left to lay gives the whole: a turn lays the next entry.
-use borrow.Author.Needs.{needs}
 use native.Mathlib.Omega.{arith}
-use mathlib.Core.Path.{_≡_, refl, sym, ap, _∙_}
+use mathlib.Core.Path.{refl}
 use Prim.Native.Nat.{_+_, _-_, _≤_}
 use Rattle.script.specs.Lines.{entriesBytes}
 use Rattle.script.specs.Entries.{entryBytes, poolNode}

@@ -1,7 +1,7 @@
 -- `$`, or the state, `>` and the parent.
 use borrow.Author.Needs.{needs}
 use native.Mathlib.Omega.{arith}
-use mathlib.Core.Path.{_≡_, refl, sym, ap, _∙_}
+use mathlib.Core.Path.{refl, ap}
 use mathlib.Core.List.{_∷_}
 use lib.ListN.{length, length-append}
 use Rattle.script.specs.Decimal.{decimal}

@@ -1,7 +1,7 @@
 -- `T`, word 0, word 1, the line end.
 use borrow.Author.Needs.{needs}
 use native.Mathlib.Omega.{arith}
-use Rattle.script.specs.Laid.Laws.{wrote-then, wrote-length}
+use Rattle.script.specs.Laid.Laws.{wrote-length}
 use Rattle.script.specs.Entries.Laws.{word-digits}
 use Rattle.script.specs.Lines.{spaced}
 use Rattle.layout.specs.Layout.{count, used}

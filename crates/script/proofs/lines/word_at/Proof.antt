@@ -1,6 +1,6 @@
 -- A word that is there, or none.
 use borrow.Author.Needs.{needs}
-use mathlib.Core.Path.{_≡_, refl, sym, ap, _∙_}
+use mathlib.Core.Path.{refl, sym}
 use lib.ListN.{List·getD-eq-default}
 use Rattle.script.proofs.lines.word_at.Statement.{statement}
 use Rattle.script.proofs.lines.word_at.Tie as tie

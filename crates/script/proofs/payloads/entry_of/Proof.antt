@@ -1,7 +1,7 @@
 -- The table's rule at a kind of the table; past it there is no kind.
 use borrow.Author.Needs.{needs}
 use native.Mathlib.Omega.{arith}
-use mathlib.Core.Path.{_≡_, refl, sym, ap, _∙_}
+use mathlib.Core.Path.{refl, sym, ap}
 use Rattle.script.specs.Table.{entry}
 use Rattle.script.specs.Payloads.Laws.{table, table-entry, no-kind}
 use Rattle.script.proofs.payloads.entry_of.Statement.{statement}

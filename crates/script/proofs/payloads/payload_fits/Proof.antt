@@ -1,7 +1,6 @@
 -- The entry is a mark of no kind, the mark of any multiple of 4, or a length.
 use borrow.Author.Needs.{needs}
-use native.Mathlib.Omega.{arith}
-use mathlib.Core.Path.{_≡_, refl, sym, ap, _∙_}
+use mathlib.Core.Path.{refl, sym}
 use Rattle.script.specs.Payloads.Laws.{kind-unknown, kind-variable, kind-fixed}
 use Rattle.script.proofs.payloads.payload_fits.Statement.{statement}
 use Rattle.script.proofs.payloads.payload_fits.Tie as tie

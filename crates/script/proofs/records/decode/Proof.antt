@@ -1,7 +1,7 @@
 -- The end, a header that is cut short, or a record.
 use borrow.Author.Needs.{needs}
 use native.Mathlib.Omega.{arith}
-use mathlib.Core.Path.{_≡_, refl, sym, ap, _∙_}
+use mathlib.Core.Path.{refl, sym, _∙_}
 use Rattle.script.specs.Format.Laws.{read-end, read-short, read-header}
 use Rattle.script.proofs.records.decode.Statement.{statement}
 use Rattle.script.proofs.records.decode.Tie as tie

@@ -1,9 +1,7 @@
 -- A mode above 1 is no merge.
 use borrow.Author.Needs.{needs}
-use native.Mathlib.Omega.{arith}
-use mathlib.Core.Path.{_≡_, refl, sym, ap, _∙_}
+use mathlib.Core.Path.{refl, sym, _∙_}
 use Rattle.script.specs.Format.Laws.{payload-mode, payload-merge}
-use Rattle.script.specs.Format.{merge, found}
 use Rattle.script.proofs.records.read_merge.Statement.{statement}
 use Rattle.script.proofs.records.read_merge.Tie as tie
 

@@ -1,8 +1,6 @@
 -- By the kind.
-use borrow.Author.Needs.{needs}
 use native.Mathlib.Omega.{arith}
-use mathlib.Core.Path.{_≡_, refl, sym, ap, _∙_}
-use Rattle.script.specs.Format.{payloadAt}
+use mathlib.Core.Path.{refl, sym}
 use Rattle.script.specs.Format.Laws.{payload-singleton, payload-show, payload-other}
 use Rattle.script.proofs.records.read_payload.Statement.{statement}
 use Rattle.script.proofs.records.read_payload.Tie as tie

@@ -1,10 +1,8 @@
 -- The payload is whole, its length is right for its kind, and then it is read.
 use borrow.Author.Needs.{needs}
 use native.Mathlib.Omega.{arith}
-use mathlib.Core.Path.{_≡_, refl, sym, ap, _∙_}
+use mathlib.Core.Path.{refl, sym, _∙_}
 use borrow.Author.Tests.{not-true, not-false}
-use Rattle.script.specs.Bytes.{u16At}
-use Rattle.script.specs.Format.{recordAt}
 use Rattle.script.specs.Format.Laws.{record-short, record-wrong, record-right}
 use Rattle.script.specs.Whole.{whole}
 use Prim.Native.Nat.{_+_}

@@ -1,9 +1,8 @@
 -- Up to i the bytes agree; a turn compares one more.
-use borrow.Author.Needs.{needs}
 use native.Mathlib.Omega.{arith}
-use mathlib.Core.Path.{_≡_, refl, sym, ap, _∙_}
-use Prim.Native.Nat.{_+_, _-_, _≤_}
-use lib.ListN.{length, take, drop}
+use mathlib.Core.Path.{_≡_, refl}
+use Prim.Native.Nat.{_-_, _≤_}
+use lib.ListN.{take, drop}
 use Rattle.script.specs.Replayed.{agree-short, agree-more, agree-not}
 use Rattle.script.proofs.replay.agrees.Statement.{statement}
 use Rattle.script.proofs.replay.agrees.Tie as tie

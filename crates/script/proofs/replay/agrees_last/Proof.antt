@@ -1,7 +1,7 @@
 -- The end line is laid out and compared, and nothing is left after it.
 use borrow.Author.Needs.{needs}
 use native.Mathlib.Omega.{arith}
-use mathlib.Core.Path.{_≡_, refl, sym, ap, _∙_}
+use mathlib.Core.Path.{refl}
 use borrow.Author.Tests.{not-true, not-false}
 use Rattle.script.specs.Lines.{endLine}
 use Rattle.script.specs.Laid.Laws.{wrote-length}

@@ -1,6 +1,6 @@
 -- By the record.
 use borrow.Author.Needs.{needs}
-use mathlib.Core.Path.{_≡_, refl, sym, ap, _∙_}
+use mathlib.Core.Path.{refl}
 use Rattle.script.specs.Steps.{callOf}
 use Rattle.script.specs.Answers.Laws.{answered-call}
 use Rattle.script.proofs.run.run_record.Statement.{statement}

@@ -1,7 +1,7 @@
 -- An overlong script, then by what stands at the place.
 use borrow.Author.Needs.{needs}
 use native.Mathlib.Omega.{arith}
-use mathlib.Core.Path.{_≡_, refl, sym, ap, _∙_}
+use mathlib.Core.Path.{refl, sym, ap, _∙_}
 use mathlib.Core.List.{[]}
 use Rattle.script.specs.Answers.{reading, callIn}
 use Rattle.script.specs.Lines.{refusalLine}

@@ -1,6 +1,5 @@
 -- The words are cleared and the count set, as the definition has it.
 use borrow.Author.Needs.{needs}
-use lib.ListN.{set}
 use Rattle.store.specs.FreshWords.{fresh-words, fresh-refused}
 use Rattle.store.proofs.renew.fresh.Statement.{statement}
 use Rattle.store.proofs.renew.fresh.Tie as tie
