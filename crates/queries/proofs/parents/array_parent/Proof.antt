@@ -6,14 +6,6 @@ use Rattle.queries.specs.Known.{few, bounds-read, parent-read, parent-ma
 use Rattle.queries.proofs.parents.array_parent.Statement.{statement}
 use Rattle.queries.proofs.parents.array_parent.Tie as tie
 
-second-of-requires : tie.Need-second-of-requires
-second-of-requires c κs = (c .before .pre .0 .sized, few (c .before .pre .0))
-
-first-of-requires : tie.Need-first-of-requires
-first-of-requires c κs =
-    let pre = c .before .before .before .pre in
-    (pre .0 .sized, few (pre .0))
-
 pool-parent-requires : tie.Need-pool-parent-requires
 pool-parent-requires c κs =
     let pre = c .before .before .before .before .pre in
@@ -44,8 +36,8 @@ pub array-parent-spec : {M : Type 1} → statement M
 array-parent-spec =
     tie.close
     (tie.spec
-    second-of-requires
-    first-of-requires
+    (λ c κs. (c .before .pre .0 .sized, few (c .before .pre .0)))
+    (λ c κs. (c .before .before .before .pre .0 .sized, few (c .before .before .before .pre .0)))
     (λ c. search needs) (λ c. search needs)
     pool-parent-requires
     returns

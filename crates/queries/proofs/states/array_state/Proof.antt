@@ -6,14 +6,6 @@ use Rattle.queries.specs.Known.{few, bounds-read, state-read, state-many
 use Rattle.queries.proofs.states.array_state.Statement.{statement}
 use Rattle.queries.proofs.states.array_state.Tie as tie
 
-second-of-requires : tie.Need-second-of-requires
-second-of-requires c κs = (c .before .pre .0 .sized, few (c .before .pre .0))
-
-first-of-requires : tie.Need-first-of-requires
-first-of-requires c κs =
-    let pre = c .before .before .before .pre in
-    (pre .0 .sized, few (pre .0))
-
 pool-state-requires : tie.Need-pool-state-requires
 pool-state-requires c κs =
     let pre = c .before .before .before .before .pre in
@@ -46,8 +38,8 @@ pub array-state-spec : {M : Type 1} → statement M
 array-state-spec =
     tie.close
     (tie.spec
-    second-of-requires
-    first-of-requires
+    (λ c κs. (c .before .pre .0 .sized, few (c .before .pre .0)))
+    (λ c κs. (c .before .before .before .pre .0 .sized, few (c .before .before .before .pre .0)))
     (λ c. search needs) (λ c. search needs)
     pool-state-requires
     (λ c κs. search needs)

@@ -6,16 +6,6 @@ use Rattle.store.specs.Judge.{array-gap, array-short, array-past, array-
 use Rattle.store.proofs.inner.check.check_array.Statement.{statement}
 use Rattle.store.proofs.inner.check.check_array.Tie as tie
 
-first-of-requires : tie.Need-first-of-requires
-first-of-requires c κs =
-    let pre = c .before .before .pre in
-    (pre .0 .records .sized, pre .1)
-
-second-of-requires : tie.Need-second-of-requires
-second-of-requires c κs =
-    let pre = c .before .before .before .pre in
-    (pre .0 .records .sized, pre .1)
-
 returns : tie.Need-returns
 returns c =
     let pre = c .before .before .before .before .before .pre in
@@ -32,11 +22,6 @@ returns-2 c =
       array-short (pre .0) (pre .1) (pre .2) (first-of .ensures) (second-of .ensures) (c .if2 .taken),
       pre .0 .index .sized,
     )
-
-sub-if3 : tie.Need-sub-if3
-sub-if3 c =
-    let pre = c .before .before .before .before .before .before .pre in
-    omega (arith, pre .0 .within)
 
 returns-3 : tie.Need-returns-3
 returns-3 c =
@@ -117,13 +102,13 @@ pub check-array-spec : {M : Type 1} → statement M
 check-array-spec =
     tie.close
     (tie.spec
-    first-of-requires
+    (λ c κs. (c .before .before .pre .0 .records .sized, c .before .before .pre .1))
     (λ c. search needs)
-    second-of-requires
+    (λ c κs. (c .before .before .before .pre .0 .records .sized, c .before .before .before .pre .1))
     (λ c. search needs)
     returns
     returns-2
-    sub-if3
+    (λ c. omega (arith, c .before .before .before .before .before .before .pre .0 .within))
     returns-3
     entries-sound-requires
     returns-4

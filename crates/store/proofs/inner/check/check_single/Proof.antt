@@ -5,16 +5,6 @@ use Rattle.store.specs.Judge.{single-not-older, single-stop, read-fresh,
 use Rattle.store.proofs.inner.check.check_single.Statement.{statement}
 use Rattle.store.proofs.inner.check.check_single.Tie as tie
 
-first-of-requires : tie.Need-first-of-requires
-first-of-requires c κs =
-    let pre = c .before .before .pre in
-    (pre .0 .records .sized, pre .1)
-
-second-of-requires : tie.Need-second-of-requires
-second-of-requires c κs =
-    let pre = c .before .before .before .pre in
-    (pre .0 .records .sized, pre .1)
-
 returns : tie.Need-returns
 returns c =
     let pre = c .before .before .before .before .before .pre in
@@ -31,11 +21,6 @@ returns-2 c =
       single-stop (pre .0) (pre .1) (pre .2) (first-of .ensures) (second-of .ensures) (c .if2 .taken),
       pre .0 .index .sized,
     )
-
-put-entry-requires : tie.Need-put-entry-requires
-put-entry-requires c κs =
-    let pre = c .before .before .before .before .before .before .before .pre in
-    (pre .0 .index .sized, omega arith)
 
 check-new-requires : tie.Need-check-new-requires
 check-new-requires c κs =
@@ -69,12 +54,12 @@ pub check-single-spec : {M : Type 1} → statement M
 check-single-spec =
     tie.close
     (tie.spec
-    first-of-requires
-    second-of-requires
+    (λ c κs. (c .before .before .pre .0 .records .sized, c .before .before .pre .1))
+    (λ c κs. (c .before .before .before .pre .0 .records .sized, c .before .before .before .pre .1))
     (λ c. search needs)
     returns
     returns-2
-    put-entry-requires
+    (λ c κs. (c .before .before .before .before .before .before .before .pre .0 .index .sized, omega arith))
     check-new-requires
     (λ c. search needs)
     returns-3
