@@ -1,0 +1,2 @@
+-- Config sets. To believe: Config.
+pub mod Config

@@ -1,0 +1,1 @@
+// What a config set is, and its words: definitions and theorems alone.
