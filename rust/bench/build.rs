@@ -1,4 +1,4 @@
-//! Links the archive that `rt staticlib measure` leaves at the repository's top, where there is one.
+//! Links the archive that `rt staticlib measure` leaves at the repository's top.
 use std::env;
 use std::path::Path;
 
@@ -6,11 +6,11 @@ fn main() {
     let here = env::var("CARGO_MANIFEST_DIR").expect("cargo sets CARGO_MANIFEST_DIR");
     let folder = Path::new(&here).join("../../target/staticlib");
     let archive = folder.join("libmeasure.a");
-    println!("cargo::rustc-check-cfg=cfg(has_archive)");
     println!("cargo::rerun-if-changed={}", archive.display());
-    if archive.exists() {
-        println!("cargo::rustc-link-search=native={}", folder.display());
-        println!("cargo::rustc-link-lib=static=measure");
-        println!("cargo::rustc-cfg=has_archive");
+    if !archive.exists() {
+        println!("cargo::error=no target/staticlib/libmeasure.a: run `rt staticlib measure` at the repository's top");
+        return;
     }
+    println!("cargo::rustc-link-search=native={}", folder.display());
+    println!("cargo::rustc-link-lib=static=measure");
 }

@@ -1,21 +1,21 @@
 -- In a sound store two numbers are equal exactly when they stand for the same set of stacks; and what each kind of record stands for.
+-- Nothing here has to be believed.
 use mathlib.Core.Path.{_≡_, refl, sym, ap, _∙_}
 use mathlib.Core.Logic.{_↔_}
-use mathlib.Core.Bool.{Bool, true, false, _&&_, _||_, or-false, false≢true}
-use mathlib.Core.List.{List, [], _∷_}
+use mathlib.Core.Bool.{Bool, true, false, _&&_, or-false, false≢true}
+use mathlib.Core.List.{List, [], _∷_, List·Memᴰ}
 use Prim.Native.Nat.{ℕ, _<_}
 use native.Mathlib.Omega.{arith}
 use lib.Dec.{eqb}
 use lib.ListN.{length}
 use Rattle.stacks.specs.Forest.{Forest, none, mark, over, mem}
+use Rattle.stacks.specs.Finite.{stacksOf, finite}
 use Rattle.stacks.specs.Beneath.{first, mem-first, ext}
 use Rattle.stacks.specs.Merge.{isMark}
-use Rattle.arena.specs.Store.{Node, end, dollar, push, Store, treeOf, tree, nodeAt, Rise, Full, Sound}
+use Rattle.arena.specs.Store.{Node, end, dollar, push, Store, treeOf, tree, nodeAt}
+use Rattle.arena.specs.Soundness.{Rise, Full, Sound}
 use Rattle.arena.specs.Trees.{node-sound, tree-node, tree-canon, tree-inj}
-
--- the stack σ is one of those that the context c stands for
-abbrev pub stands : Store → ℕ → List ℕ → Bool
-stands s c σ = mem (tree s c) σ
+use Rattle.arena.specs.Stands.{stands, entriesStand}
 
 -- Demand 3: equal numbers exactly when the same stacks.
 pub same-stacks : (s : Store) → Sound s → (a b : ℕ) → a < length s → b < length s
@@ -25,7 +25,10 @@ same-stacks s w a b h k = (
   λ same. tree-inj s w a b h k (ext _ _ (tree-canon s w a h .1) (tree-canon s w b k .1) same),
 )
 
--- "A context stands for a finite, non-empty set of stacks": one that is there. (A forest is finite.)
+-- "A context stands for a finite, non-empty set of stacks": its stacks as a list, and one that is there
+pub finite-stacks : (s : Store) (c : ℕ) → (l : List (List ℕ)) × ((σ : List ℕ) → (stands s c σ ≡ true) ↔ List·Memᴰ σ l)
+finite-stacks s c = (stacksOf (tree s c), finite (tree s c))
+
 pub some-stack : (s : Store) → Sound s → (c : ℕ) → c < length s → (σ : List ℕ) × (stands s c σ ≡ true)
 some-stack s w c h = let v = tree-canon s w c h in (first (tree s c), mem-first 0 (tree s c) (v .1) (v .0))
 
@@ -65,14 +68,6 @@ unfolding mem treeOf
 singleton-stands s w c r p h e =
     let is : tree s c ≡ over r (tree s p) none = tree-node s w c h ∙ ap (treeOf (tree s)) e in
     (rw is, λ x σ. rw is (or-false _))
-
--- the stacks of a record's entries, one after the other: `$` is the empty stack, an entry its state on top of each stack of its parent
-unfoldable pub entriesStand : Store → Node → List ℕ → Bool
-entriesStand s end σ = false
-entriesStand s dollar [] = true
-entriesStand s dollar (x ∷ σ) = false
-entriesStand s (push r p n) [] = entriesStand s n []
-entriesStand s (push r p n) (x ∷ σ) = (eqb r x && stands s p σ) || entriesStand s n (x ∷ σ)
 
 treeOf-stands : (s : Store) (n : Node) (σ : List ℕ) → mem (treeOf (tree s) n) σ ≡ entriesStand s n σ
 unfolding mem treeOf entriesStand

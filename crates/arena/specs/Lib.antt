@@ -1,6 +1,8 @@
 -- Stores of contexts. To believe: Store, Place, Kinds. The rest are laws; Identity, Numbering and Grouping read beside document 01.
 pub mod Store
+pub mod Soundness
 pub mod Trees
+pub mod Stands
 pub mod Identity
 pub mod Place
 pub mod Placed
@@ -8,5 +10,4 @@ pub mod Kinds
 pub mod Room
 pub mod Below
 pub mod Numbering
-pub mod Grouping
 pub mod Steps

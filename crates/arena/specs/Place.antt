@@ -1,5 +1,5 @@
--- A set of stacks placed in a store: what stands beneath first, in rising order of the top state, each part found or appended.
-use mathlib.Core.Path.{_≡_, refl}
+-- To believe: a set of stacks placed in a store: what stands beneath first, in rising order of the top state, each part found or appended.
+pub mod Laws
 use mathlib.Core.Bool.{Bool}
 use mathlib.Core.List.{_∷_}
 use Prim.Native.Nat.{ℕ}
@@ -35,13 +35,3 @@ place s F = let B = placeE s F in intern (B .1) (B .0)
 -- the merge of two contexts: the merge of their sets, placed
 unfoldable pub mergeS : Bool → Store → ℕ → ℕ → ℕ × Store
 mergeS m s a b = place s (mergeT m (tree s a) (tree s b))
-
--- ---- one entry more
-
--- an entry ahead of those of a node
-abbrev pub ahead : ℕ → ℕ → Node × Store → Node × Store
-ahead r p x = (push r p (x .0), x .1)
-
-pub placeE-over : (s : Store) (r : ℕ) (b t : Forest) → placeE s (over r b t) ≡ ahead r (place s b .0) (placeE (place s b .1) t)
-unfolding placeE place
-placeE-over s r b t = refl

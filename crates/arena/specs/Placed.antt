@@ -1,11 +1,12 @@
--- Laws of placing: what is there makes nothing; only appends; keeps soundness; the number stands for the set.
+-- Laws of placing: what is there makes nothing; only appends; keeps soundness; the number stands for the set. Nothing here has to be believed.
 use mathlib.Core.Path.{_≡_, refl, sym, ap, _∙_, subst}
 use mathlib.Core.List.{[], _∷_, _++_, append-assoc}
 use Prim.Native.Nat.{ℕ, suc, _<_, _≤_}
 use native.Mathlib.Omega.{arith}
 use lib.ListN.{length, length-append}
 use Rattle.stacks.specs.Forest.{Forest, none, mark, over, Some, From, Canon}
-use Rattle.arena.specs.Store.{Node, end, dollar, push, Store, treeOf, tree, nodeAt, at, nowhere, find, Rise, Full, Sound}
+use Rattle.arena.specs.Store.{Node, end, dollar, push, Store, treeOf, tree, nodeAt, at, nowhere, find}
+use Rattle.arena.specs.Soundness.{Rise, Full, Sound}
 use Rattle.arena.specs.Trees.{node-sound, node-rise, nodes-differ, find?, find-at, find-none, tree-new, tree-old, tree-node, treeOf-agree}
 use Rattle.arena.specs.Place.{listed, intern, placeE, place}
 

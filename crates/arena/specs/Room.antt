@@ -1,10 +1,8 @@
--- The room that a store takes, in contexts and in pool entries, only grows: code that stops at the first overflow is right.
-use mathlib.Core.List.{[], _∷_, _++_}
-use Prim.Native.Nat.{ℕ, _≤_, _+_}
-use native.Mathlib.Omega.{arith}
-use lib.ListN.{length}
+-- To believe: the room that a store takes in the pool.
+pub mod Laws
+use mathlib.Core.List.{[], _∷_}
+use Prim.Native.Nat.{ℕ, _+_}
 use Rattle.arena.specs.Store.{Node, Store}
-use Rattle.arena.specs.Placed.{Grew, grew-length}
 use Rattle.arena.specs.Kinds.{context0, singleton, array, kindOf, size}
 
 -- the pool entries of a record: all entries of an array, none of any other
@@ -15,15 +13,3 @@ room n = elim (kindOf n) [ context0 ↦ 0 | singleton ↦ 0 | array ↦ size n ]
 unfoldable pub pool : Store → ℕ
 pool [] = 0
 pool (n ∷ s) = pool s + room n
-
-pool-more : (k s : Store) → pool s ≤ pool (k ++ s)
-unfolding pool
-pool-more [] s = omega arith
-pool-more (n ∷ k) s = omega (arith, pool-more k s)
-
-pub pool-grew : (s u : Store) → Grew s u → pool s ≤ pool u
-pool-grew s u g = rw (g .1) (pool-more (g .0) s)
-
--- more room is taken at the end than on the way, in both
-pub room-grew : (s u : Store) → Grew s u → (length s ≤ length u) × (pool s ≤ pool u)
-room-grew s u g = (grew-length s u g, pool-grew s u g)

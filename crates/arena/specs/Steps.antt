@@ -1,16 +1,19 @@
--- The merge of two contexts by number: the steps that merge code follows.
+-- The merge of two contexts by number: the steps that merge code follows. Nothing here has to be believed.
 use mathlib.Core.Path.{_≡_, refl, sym, ap}
 use mathlib.Core.Bool.{Bool, true, false}
 use Prim.Native.Nat.{ℕ, suc, _<_}
 use native.Mathlib.Omega.{arith}
 use lib.ListN.{length}
 use Rattle.stacks.specs.Forest.{Forest, over}
-use Rattle.stacks.specs.Merge.{mergeE, mergeT, merge-less, merge-equal, merge-greater, mergeE-none, mark-mergeT, mergeT-mark, mergeT-full, mergeT-plain}
+use Rattle.stacks.specs.Merge.{mergeE, mergeT}
+use Rattle.stacks.specs.Merge.Laws.{merge-less, merge-equal, merge-greater, mergeE-none, mark-mergeT, mergeT-mark, mergeT-full, mergeT-plain}
 use Rattle.stacks.specs.Algebra.{idem, comm, canon-merge, some-merge}
-use Rattle.arena.specs.Store.{Node, end, dollar, push, Store, treeOf, tree, nodeAt, Rise, Sound}
+use Rattle.arena.specs.Store.{Node, end, dollar, push, Store, treeOf, tree, nodeAt}
+use Rattle.arena.specs.Soundness.{Rise, Sound}
 use Rattle.arena.specs.Trees.{tree-node, tree-canon}
 use Rattle.arena.specs.Identity.{tree-root, not-root}
-use Rattle.arena.specs.Place.{intern, placeE, place, mergeS, ahead, placeE-over}
+use Rattle.arena.specs.Place.{intern, placeE, place, mergeS}
+use Rattle.arena.specs.Place.Laws.{ahead, placeE-over}
 use Rattle.arena.specs.Placed.{placeE-there, place-there, Grew, grew-node, place-grew, Holds, place-holds}
 
 -- the entries of the merge of two records' entries, with the store that has what stands beneath

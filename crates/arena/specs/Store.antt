@@ -1,8 +1,7 @@
--- A store of contexts: a list of records, the newest first. A context's number is how many are older.
-use mathlib.Core.Path.{_≡_}
+-- To believe: a store of contexts: a list of records, the newest first. A context's number is how many are older.
 use mathlib.Core.Bool.{Bool, true, false, _&&_}
 use mathlib.Core.List.{List, [], _∷_}
-use Prim.Native.Nat.{ℕ, suc, _<_, _≤_}
+use Prim.Native.Nat.{ℕ}
 use lib.Dec.{eqb}
 use lib.ListN.{length}
 use Rattle.stacks.specs.Forest.{Forest, none, mark, over}
@@ -55,22 +54,3 @@ pub data Found : Type 0 where
 unfoldable pub find : Node → Store → Found
 find n [] = nowhere
 find n (x ∷ s) = elim (same n x) [ true ↦ at (length s) | false ↦ find n s ]
-
--- ---- soundness
-
--- the states rise strictly from `lo` on, and each parent's number is below c
-abbrev pub Rise : ℕ → ℕ → Node → Type 0
-Rise lo c end = Unit {0}
-Rise lo c dollar = Unit {0}
-Rise lo c (push r p n) = (lo ≤ r) × (p < c) × Rise (suc r) c n
-
--- there is an entry
-abbrev pub Full : Node → Type 0
-Full end = ⊥
-Full dollar = Unit {0}
-Full (push r p n) = Unit {0}
-
--- each record has an entry, its states rise, its parents are older, and no older record is the same
-abbrev pub Sound : Store → Type 0
-Sound [] = Unit {0}
-Sound (n ∷ s) = Rise 0 (length s) n × Full n × (find n s ≡ nowhere) × Sound s

@@ -1,25 +1,20 @@
 -- Records and the sets they stand for: appending keeps older ones, sets are canonical, and in a sound store equal sets have equal numbers.
+-- Nothing here has to be believed.
 use mathlib.Core.Path.{_≡_, refl, sym, _∙_}
-use mathlib.Core.Bool.{Bool, true, false, _&&_, false≢true}
+use mathlib.Core.Bool.{Bool, true, false, false≢true}
 use mathlib.Core.List.{[], _∷_}
 use Prim.Native.Nat.{ℕ, suc, _<_, _≤_}
 use native.Mathlib.Omega.{arith}
 use lib.Dec.{eqb}
 use lib.ListN.{length}
 use borrow.Author.Tests.{eq-eqb, ne-eqb, eqb-true}
-use Rattle.stacks.specs.Compare.{two}
+use Rattle.cases.specs.Numbers.{two}
 use Rattle.stacks.specs.Forest.{Forest, Some, From, Canon}
-use Rattle.arena.specs.Store.{Node, end, dollar, push, Store, treeOf, tree, nodeAt, same, Found, at, nowhere, find, Rise, Full, Sound}
+use Rattle.arena.specs.Store.{Node, end, dollar, push, Store, treeOf, tree, nodeAt, same, Found, at, nowhere, find}
+use Rattle.arena.specs.Soundness.{Rise, Full, Sound}
+use Rattle.cases.specs.Bools.{and-left, and-right}
 
 -- ---- equal records
-
-pub and-left : (a b : Bool) → (a && b) ≡ true → a ≡ true
-and-left true b e = refl
-and-left false b e = e
-
-pub and-right : (a b : Bool) → (a && b) ≡ true → b ≡ true
-and-right true b e = e
-and-right false b e = absurd (false≢true e)
 
 pub same-self : (n : Node) → same n n ≡ true
 unfolding same

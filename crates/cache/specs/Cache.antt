@@ -1,4 +1,5 @@
 -- The cache's words in the scratch, and what code of this crate leaves there. `z` and `u` are the scratch's words before and after.
+-- Nothing here has to be believed.
 use mathlib.Core.Path.{_≡_}
 use mathlib.Core.Logic.{_⊎_, _≢_}
 use mathlib.Core.List.{List}
@@ -6,6 +7,10 @@ use Prim.Native.Nat.{ℕ, _<_, _≤_, _+_}
 use lib.ListN.{length, getD, set}
 use Rattle.words.specs.Lent.{clearedRange}
 use Rattle.cache.specs.Packed.{packed, smaller, larger}
+
+-- how many words it has
+abbrev pub cacheWords : ℕ
+cacheWords = 6144
 
 -- the word at a place of the cache, 0 for an empty one
 unfoldable pub cacheWord : List ℕ → ℕ → ℕ

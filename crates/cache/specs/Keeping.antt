@@ -1,4 +1,4 @@
--- The cache's writes: a result put into an empty word, nothing written, and all made empty.
+-- The cache's writes: a result put into an empty word, nothing written, and all made empty. Nothing here has to be believed.
 use mathlib.Core.Path.{_≡_, refl, _∙_}
 use mathlib.Core.Logic.{inl, inr, _≢_}
 use mathlib.Core.Bool.{Bool}
@@ -9,7 +9,7 @@ use native.Mathlib.Decide.{decLe}
 use native.Mathlib.Nat.{lt-of-not-le}
 use lib.ListN.{length, getD, length-set}
 use lib.Seq.{getD-set-same, getD-set-other}
-use Rattle.stacks.specs.Compare.{two}
+use Rattle.cases.specs.Numbers.{two}
 use Rattle.words.specs.Lent.Laws.{length-clearedRange, clearedRange-before, clearedRange-inside, clearedRange-after}
 use Rattle.arena.specs.Store.{Store}
 use Rattle.cache.specs.Packed.{packed, smaller, larger}

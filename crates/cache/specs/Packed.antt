@@ -1,4 +1,4 @@
--- A merge's result as one word: the sides, the smaller number first, and the result, 9 bits each, plus 1.
+-- A merge's result as one word: the sides, the smaller number first, and the result, 9 bits each, plus 1. Nothing here has to be believed.
 use mathlib.Core.Path.{_≡_}
 use mathlib.Core.Bool.{true, false}
 use Prim.Native.Nat.{ℕ, _<_, _≤_, _+_, _*_, _-_, _/_, _%_}

@@ -1,4 +1,4 @@
--- The results kept are right: each stands for the merge of its sides. What keeps that, and that a hit is then the merge.
+-- The results kept are right: each stands for the merge of its sides. What keeps that, and that a hit is then the merge. Nothing here has to be believed.
 use mathlib.Core.Path.{_≡_, refl, sym, _∙_}
 use mathlib.Core.Logic.{inl, inr}
 use mathlib.Core.Bool.{Bool}
@@ -8,7 +8,8 @@ use native.Mathlib.Omega.{arith}
 use lib.ListN.{length}
 use Rattle.stacks.specs.Merge.{mergeT}
 use Rattle.stacks.specs.Algebra.{comm}
-use Rattle.arena.specs.Store.{Store, tree, Sound}
+use Rattle.arena.specs.Store.{Store, tree}
+use Rattle.arena.specs.Soundness.{Sound}
 use Rattle.arena.specs.Trees.{tree-canon}
 use Rattle.arena.specs.Place.{mergeS}
 use Rattle.arena.specs.Placed.{Grew, grew-length, grew-tree, Holds}

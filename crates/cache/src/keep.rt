@@ -11,12 +11,13 @@ use words::ContextId;
 ghost use mathlib.Core.Path.{_≡_};
 ghost use Prim.Native.Nat.{_<_};
 ghost use lib.ListN.{length};
-ghost use Rattle.cache.specs.Answer.{Free};
-ghost use Rattle.cache.specs.Cache.{Remembered, clearedCache, putResult};
+ghost use Rattle.cache.specs.Recalled.{Free};
+ghost use Rattle.cache.specs.Cache.{Remembered, clearedCache, putResult, cacheWords};
+ghost use Rattle.layout.specs.Layout.{mostContexts, scratchWords};
 
 // Empties the cache.
 pub fn clear_cache(scratch: &mut [u32])
-    requires { ⌜ length (now scratch) ≡ 16384 ⌝ }
+    requires { ⌜ length (now scratch) ≡ scratchWords ⌝ }
     ensures { λ _. ⌜ now (scratch .exit) ≡ clearedCache (now (scratch .entry)) ⌝ }
 {
     words::clear_range(scratch, CACHE, CACHE + CACHE_WORDS);
@@ -31,7 +32,7 @@ pub enum Room {
 
 // The first empty word from a place on.
 fn first_empty(scratch: &[u32], from: usize) -> Room
-    requires { ⌜ (length (now scratch) ≡ 16384) × (from < 6144) ⌝ }
+    requires { ⌜ (length (now scratch) ≡ scratchWords) × (from < cacheWords) ⌝ }
     ensures { λ r. ⌜ Free (now (scratch .entry)) r ⌝ }
 {
     let mut place = from;
@@ -48,7 +49,7 @@ fn first_empty(scratch: &[u32], from: usize) -> Room
 
 // Writes a result's word, and how many are kept with it.
 fn put_result(scratch: &mut [u32], place: usize, word: u32, kept: u32)
-    requires { ⌜ (length (now scratch) ≡ 16384) × (place < 6144) ⌝ }
+    requires { ⌜ (length (now scratch) ≡ scratchWords) × (place < cacheWords) ⌝ }
     ensures { λ _. ⌜ now (scratch .exit) ≡ putResult (now (scratch .entry)) place word kept ⌝ }
 {
     scratch[CACHE + place] = word;
@@ -57,7 +58,7 @@ fn put_result(scratch: &mut [u32], place: usize, word: u32, kept: u32)
 
 // Keeps the result of a merge while fewer than `MOST_RESULTS` are kept.
 pub fn remember(scratch: &mut [u32], left: ContextId, right: ContextId, result: ContextId)
-    requires { ⌜ (length (now scratch) ≡ 16384) × (left .0 < 512) × (right .0 < 512) × (result .0 < 512) ⌝ }
+    requires { ⌜ (length (now scratch) ≡ scratchWords) × (left .0 < mostContexts) × (right .0 < mostContexts) × (result .0 < mostContexts) ⌝ }
     ensures { λ _. ⌜ Remembered (now (scratch .entry)) (left .0) (right .0) (result .0) (now (scratch .exit)) ⌝ }
 {
     let kept = scratch[CACHE_COUNT];

@@ -7,7 +7,7 @@ mod slots;
 
 pub use keep::clear_cache;
 pub use keep::remember;
-pub use lookup::Known;
+pub use lookup::Recall;
 pub use lookup::cached;
 pub use places::CACHE;
 pub use places::CACHE_COUNT;

@@ -8,18 +8,19 @@ use words::ContextId;
 ghost use mathlib.Core.Path.{_≡_};
 ghost use Prim.Native.Nat.{_<_};
 ghost use lib.ListN.{length};
-ghost use Rattle.cache.specs.Answer.{Answered};
+ghost use Rattle.cache.specs.Recalled.{Recalls};
+ghost use Rattle.layout.specs.Layout.{mostContexts, scratchWords};
 
 // What the cache knows of a merge.
-pub enum Known {
+pub enum Recall {
     As(ContextId),
     Unknown,
 }
 
 // The result kept for two sides, in either order, if there is one.
-pub fn cached(scratch: &[u32], left: ContextId, right: ContextId) -> Known
-    requires { ⌜ (length (now scratch) ≡ 16384) × (left .0 < 512) × (right .0 < 512) ⌝ }
-    ensures { λ r. ⌜ Answered (now (scratch .entry)) (left .0) (right .0) r ⌝ }
+pub fn cached(scratch: &[u32], left: ContextId, right: ContextId) -> Recall
+    requires { ⌜ (length (now scratch) ≡ scratchWords) × (left .0 < mostContexts) × (right .0 < mostContexts) ⌝ }
+    ensures { λ r. ⌜ Recalls (now (scratch .entry)) (left .0) (right .0) r ⌝ }
 {
     let sides = pair(left, right);
     let mut place = slot(sides);
@@ -27,13 +28,13 @@ pub fn cached(scratch: &[u32], left: ContextId, right: ContextId) -> Known
     while tried < CACHE_WORDS {
         let word = cache_word(scratch, place);
         if word == 0 {
-            return Known::Unknown;
+            return Recall::Unknown;
         }
         if (word - 1) / 512 == sides {
-            return Known::As(ContextId((word - 1) % 512));
+            return Recall::As(ContextId((word - 1) % 512));
         }
         place = next_place(place);
         tried += 1;
     }
-    Known::Unknown
+    Recall::Unknown
 }

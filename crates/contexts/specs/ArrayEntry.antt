@@ -1,4 +1,4 @@
--- The needs of `merge_array_with_entry`: the left side is an array, the right side has one entry.
+-- The needs of `merge_array_with_entry`: the left side is an array, the right side has one entry. Nothing here has to be believed.
 use mathlib.Core.Path.{_≡_, refl, sym, _∙_}
 use mathlib.Core.Bool.{Bool}
 use mathlib.Core.List.{List}
@@ -9,20 +9,22 @@ use Rattle.arena.specs.Store.{nodeAt}
 use Rattle.arena.specs.Kinds.{size}
 use Rattle.arena.specs.Room.{room}
 use Rattle.arena.specs.Place.{mergeS}
-use Rattle.layout.specs.Layout.{storeWords, first, second, parent, state, stackParent, stackState}
+use Rattle.layout.specs.Layout.{storeWords, first, second, parent, state}
+use Rattle.layout.specs.Scratch.{stackParent, stackState}
 use Rattle.layout.specs.Decode.{storeOf}
-use Rattle.contexts.specs.Live.{live-length}
-use Rattle.contexts.specs.Write.{many-room}
-use Rattle.contexts.specs.Rest.{headParent, headState, rest}
-use Rattle.contexts.specs.Onto.{onto}
+use Rattle.interning.specs.Live.{live-length}
+use Rattle.interning.specs.Write.{many-room}
+use Rattle.contexts.specs.EntriesFrom.{headParent, headState, rest}
+use Rattle.contexts.specs.StackAhead.{onto}
 use Rattle.contexts.specs.Ends.{ends, ends-inner, ends-le}
 use Rattle.contexts.specs.Merging.{Mergeable, Outcome}
-use Rattle.contexts.specs.Finish.{Finishing, Extends, whole, array-size}
-use Rattle.contexts.specs.Last.{Plain, plain-size, Lasting, withLast}
-use Rattle.contexts.specs.Now.{known-now, few-now, plain-now, array-long, array-ends, head-before, head-le, array-positive, later-known, later-node, later-array, later-plain, later-size, later-place, later-state, later-parent}
-use Rattle.contexts.specs.Given.{ArrayAndEntry, Fitting}
-use Rattle.contexts.specs.Inner.{Go, Heads, is-left, is-right, outcome, inner}
-use Rattle.contexts.specs.declared.intern.Made.{Made}
+use Rattle.contexts.specs.WithRest.{Finishing, Extends, whole, array-size}
+use Rattle.contexts.specs.WithSingle.{Plain, plain-size, Lasting, withLast}
+use Rattle.contexts.specs.SideWords.{known-now, few-now, plain-now, array-long, array-ends, head-before, head-le, array-positive, later-known, later-node, later-array, later-plain}
+use Rattle.contexts.specs.SideWords.{later-size, later-place, later-state, later-parent}
+use Rattle.contexts.specs.SideKinds.{ArrayAndEntry, Fitting}
+use Rattle.contexts.specs.MergeStep.{Go, Heads, is-left, is-right, outcome, inner}
+use Rattle.interning.specs.declared.inner.intern.Made.{Made}
 
 module _ {m : Bool} {w₀ z₀ : List ℕ} {a b top : ℕ} (p : ArrayAndEntry m w₀ z₀ a b top) where
   v₀ : Mergeable m w₀ z₀ a b top
@@ -45,7 +47,8 @@ module _ {m : Bool} {w₀ z₀ : List ℕ} {a b top : ℕ} (p : ArrayAndEntry m 
 
   -- a parent's record ends before the array's entries
   ends-left : (i : ℕ) → ends (storeOf w₀) (headParent (rest (nodeAt (storeOf w₀) a) i)) + size (nodeAt (storeOf w₀) a) ≤ ends (storeOf w₀) a
-  ends-left i = rw (← many-room (nodeAt (storeOf w₀) a) array-two) (ends-inner (storeOf w₀) a _ (v₀ .left) (head-before (v₀ .live) a (v₀ .left) (array-positive (v₀ .live) a (v₀ .left) (p .left)) i))
+  ends-left i = rw (← many-room (nodeAt (storeOf w₀) a) array-two)
+      (ends-inner (storeOf w₀) a _ (v₀ .left) (head-before (v₀ .live) a (v₀ .left) (array-positive (v₀ .live) a (v₀ .left) (p .left)) i))
 
   -- the one entry, from place 0 on
   entry-rest : rest (nodeAt (storeOf w₀) b) 0 ≡ nodeAt (storeOf w₀) b
@@ -112,7 +115,8 @@ module _ {m : Bool} {w₀ z₀ : List ℕ} {a b top : ℕ} (p : ArrayAndEntry m 
       room = omega (arith, mixed-fits .room, entry-size, g .few);
     }
 
-    pub mixed-last-outcome : size (nodeAt (storeOf w₀) a) ≤ i → (r : Made) (w′ u : List ℕ) → Extends w z top (withLast w z b top n) r w′ u → Outcome m w₀ z₀ top (mergeS m (storeOf w₀) a b) r w′ u
+    pub mixed-last-outcome : size (nodeAt (storeOf w₀) a) ≤ i → (r : Made) (w′ u : List ℕ) → Extends w z top (withLast w z b top n) r w′ u → Outcome m w₀ z₀ top
+        (mergeS m (storeOf w₀) a b) r w′ u
     mixed-last-outcome h r w′ u x =
         outcome mixed-fits g (onto (stackState z) (stackParent z) top n (nodeAt (storeOf w) b))
         (rw entry-node (is-right mixed-fits g h)) r w′ u x

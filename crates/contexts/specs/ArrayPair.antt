@@ -1,4 +1,4 @@
--- The needs of `merge_arrays`: both sides are arrays.
+-- The needs of `merge_arrays`: both sides are arrays. Nothing here has to be believed.
 use mathlib.Core.Path.{_≡_, _∙_}
 use mathlib.Core.Bool.{Bool}
 use mathlib.Core.List.{List}
@@ -9,19 +9,21 @@ use Rattle.arena.specs.Store.{nodeAt}
 use Rattle.arena.specs.Kinds.{size}
 use Rattle.arena.specs.Room.{room}
 use Rattle.arena.specs.Place.{mergeS}
-use Rattle.layout.specs.Layout.{storeWords, first, second, parent, state, stackParent, stackState}
+use Rattle.layout.specs.Layout.{storeWords, first, second, parent, state}
+use Rattle.layout.specs.Scratch.{stackParent, stackState}
 use Rattle.layout.specs.Decode.{storeOf}
-use Rattle.contexts.specs.Live.{live-length}
-use Rattle.contexts.specs.Write.{many-room}
-use Rattle.contexts.specs.Rest.{headParent, rest}
-use Rattle.contexts.specs.Onto.{onto}
+use Rattle.interning.specs.Live.{live-length}
+use Rattle.interning.specs.Write.{many-room}
+use Rattle.contexts.specs.EntriesFrom.{headParent, rest}
+use Rattle.contexts.specs.StackAhead.{onto}
 use Rattle.contexts.specs.Ends.{ends, ends-inner}
 use Rattle.contexts.specs.Merging.{Mergeable, Outcome}
-use Rattle.contexts.specs.Finish.{Finishing, Extends, whole, array-size}
-use Rattle.contexts.specs.Now.{known-now, few-now, array-long, array-ends, head-before, array-positive, later-known, later-node, later-array, later-size, later-place, later-state, later-parent}
-use Rattle.contexts.specs.Given.{TwoArrays, Fitting}
-use Rattle.contexts.specs.Inner.{Go, Heads, is-left, is-right, outcome, inner}
-use Rattle.contexts.specs.declared.intern.Made.{Made}
+use Rattle.contexts.specs.WithRest.{Finishing, Extends, whole, array-size}
+use Rattle.contexts.specs.SideWords.{known-now, few-now, array-long, array-ends, head-before, array-positive, later-known, later-node, later-array, later-size, later-place, later-state}
+use Rattle.contexts.specs.SideWords.{later-parent}
+use Rattle.contexts.specs.SideKinds.{TwoArrays, Fitting}
+use Rattle.contexts.specs.MergeStep.{Go, Heads, is-left, is-right, outcome, inner}
+use Rattle.interning.specs.declared.inner.intern.Made.{Made}
 
 module _ {m : Bool} {w₀ z₀ : List ℕ} {a b top : ℕ} (p : TwoArrays m w₀ z₀ a b top) where
   v₀ : Mergeable m w₀ z₀ a b top
@@ -44,10 +46,12 @@ module _ {m : Bool} {w₀ z₀ : List ℕ} {a b top : ℕ} (p : TwoArrays m w₀
 
   -- a parent's record ends before the array's entries
   ends-left : (i : ℕ) → ends (storeOf w₀) (headParent (rest (nodeAt (storeOf w₀) a) i)) + size (nodeAt (storeOf w₀) a) ≤ ends (storeOf w₀) a
-  ends-left i = rw (← many-room (nodeAt (storeOf w₀) a) left-long) (ends-inner (storeOf w₀) a _ (v₀ .left) (head-before (v₀ .live) a (v₀ .left) (array-positive (v₀ .live) a (v₀ .left) (p .left)) i))
+  ends-left i = rw (← many-room (nodeAt (storeOf w₀) a) left-long)
+      (ends-inner (storeOf w₀) a _ (v₀ .left) (head-before (v₀ .live) a (v₀ .left) (array-positive (v₀ .live) a (v₀ .left) (p .left)) i))
 
   ends-right : (j : ℕ) → ends (storeOf w₀) (headParent (rest (nodeAt (storeOf w₀) b) j)) + size (nodeAt (storeOf w₀) b) ≤ ends (storeOf w₀) b
-  ends-right j = rw (← many-room (nodeAt (storeOf w₀) b) right-long) (ends-inner (storeOf w₀) b _ (v₀ .right) (head-before (v₀ .live) b (v₀ .right) (array-positive (v₀ .live) b (v₀ .right) (p .right)) j))
+  ends-right j = rw (← many-room (nodeAt (storeOf w₀) b) right-long)
+      (ends-inner (storeOf w₀) b _ (v₀ .right) (head-before (v₀ .live) b (v₀ .right) (array-positive (v₀ .live) b (v₀ .right) (p .right)) j))
 
   module _ {w z : List ℕ} {i j n : ℕ} (g : Go m w₀ z₀ a b top w z i j n) where
     left-known : a < length (storeOf w)
@@ -106,12 +110,14 @@ module _ {m : Bool} {w₀ z₀ : List ℕ} {a b top : ℕ} (p : TwoArrays m w₀
           room = omega (arith, pair-fits .room, g .few);
         }
 
-    pub left-outcome : size (nodeAt (storeOf w₀) b) ≤ j → (r : Made) (w′ u : List ℕ) → Extends w z top (whole w z a i top n) r w′ u → Outcome m w₀ z₀ top (mergeS m (storeOf w₀) a b) r w′ u
+    pub left-outcome : size (nodeAt (storeOf w₀) b) ≤ j → (r : Made) (w′ u : List ℕ) → Extends w z top (whole w z a i top n) r w′ u → Outcome m w₀ z₀ top
+        (mergeS m (storeOf w₀) a b) r w′ u
     left-outcome h r w′ u x =
         outcome pair-fits g (onto (stackState z) (stackParent z) top n (rest (nodeAt (storeOf w) a) i))
         (rw (later-node (v₀ .live) a (v₀ .left) (g .live) (g .grew)) (is-left pair-fits g h)) r w′ u x
 
-    pub right-outcome : size (nodeAt (storeOf w₀) a) ≤ i → (r : Made) (w′ u : List ℕ) → Extends w z top (whole w z b j top n) r w′ u → Outcome m w₀ z₀ top (mergeS m (storeOf w₀) a b) r w′ u
+    pub right-outcome : size (nodeAt (storeOf w₀) a) ≤ i → (r : Made) (w′ u : List ℕ) → Extends w z top (whole w z b j top n) r w′ u → Outcome m w₀ z₀ top
+        (mergeS m (storeOf w₀) a b) r w′ u
     right-outcome h r w′ u x =
         outcome pair-fits g (onto (stackState z) (stackParent z) top n (rest (nodeAt (storeOf w) b) j))
         (rw (later-node (v₀ .live) b (v₀ .right) (g .live) (g .grew)) (is-right pair-fits g h)) r w′ u x

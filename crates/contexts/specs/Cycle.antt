@@ -1,4 +1,4 @@
--- The needs of the cycle of merges, member by member, over plain lists and numbers.
+-- The needs of the cycle of merges, member by member, over plain lists and numbers. Nothing here has to be believed.
 use mathlib.Core.Path.{_≡_, refl, sym, ap, _∙_}
 use mathlib.Core.Logic.{⊎-elim}
 use mathlib.Core.Bool.{Bool, true, false}
@@ -6,7 +6,8 @@ use mathlib.Core.List.{List}
 use Prim.Native.Nat.{ℕ, _<_}
 use native.Mathlib.Omega.{arith}
 use lib.ListN.{length}
-use Rattle.arena.specs.Store.{Node, Store, nodeAt, Sound}
+use Rattle.arena.specs.Store.{Node, Store, nodeAt}
+use Rattle.arena.specs.Soundness.{Sound}
 use Rattle.arena.specs.Trees.{node-rise}
 use Rattle.arena.specs.Room.{room}
 use Rattle.arena.specs.Place.{mergeS, intern}
@@ -18,12 +19,12 @@ use Rattle.encoding.specs.Encoded.{node-below}
 use Rattle.index.specs.Grow.{index-frame}
 use Rattle.cache.specs.Cache.{Kept, Remembered}
 use Rattle.cache.specs.Right.{CacheRight, right-grew, right-made, right-remember, right-hit}
-use Rattle.contexts.specs.Live.{Live}
+use Rattle.interning.specs.Live.{Live}
 use Rattle.contexts.specs.Merging.{Mergeable, Merged, Stuck, Outcome, Merging, Sorted, cache-moved, pair-of}
-use Rattle.contexts.specs.Finish.{Extends}
+use Rattle.contexts.specs.WithRest.{Extends}
 use Rattle.contexts.specs.Sides.{Apart, Swallows}
-use Rattle.contexts.specs.declared.intern.Made.{Made}
-use Rattle.contexts.specs.declared.intern.Made.the-variants.{At, NoRoom}
+use Rattle.interning.specs.declared.inner.intern.Made.{Made}
+use Rattle.interning.specs.declared.inner.intern.Made.the-variants.{At, NoRoom}
 
 -- ---- nothing is made
 
@@ -52,7 +53,8 @@ module _ {m : Bool} {w z : List ℕ} {a b top : ℕ} (v : Mergeable m w z a b to
   sides-equal e = merged-same m w z top _ a (v .live) (v .cache) (merge-same m (storeOf w) sound a b (v .left) (v .right) e)
 
   pub side-swallows : Swallows m a b true → Merged m z top (mergeS m (storeOf w) a b) 0 w z
-  side-swallows s = merged-same m w z top _ 0 (v .live) (v .cache) (rw (s .0) (⊎-elim (merge-root-left (storeOf w) sound a b (v .left) (v .right)) (merge-root-right (storeOf w) sound a b (v .left) (v .right)) (s .1)))
+  side-swallows s = merged-same m w z top _ 0 (v .live) (v .cache)
+      (rw (s .0) (⊎-elim (merge-root-left (storeOf w) sound a b (v .left) (v .right)) (merge-root-right (storeOf w) sound a b (v .left) (v .right)) (s .1)))
 
   pub cache-hit : (c : ℕ) → Kept z a b c → Merged m z top (mergeS m (storeOf w) a b) c w z
   cache-hit c k = merged-same m w z top _ c (v .live) (v .cache) (right-hit m (storeOf w) z sound (v .live .good .fits .0) (v .cache) a b c (v .left) (v .right) k)
@@ -108,7 +110,8 @@ by-entries {m} {w} {z} {a} {b} {top} v d n u e =
 -- ---- from what interning leaves to what the merge leaves
 
 module _ (m : Bool) (s₀ : Store) (n₀ k₀ : Node) (top : ℕ) (w₀ zb w z : List ℕ) (i j n : ℕ) (es : s₀ ≡ storeOf w₀) (v : Merging m s₀ n₀ k₀ top zb w z i j n) where
-  pub extended : (x : ℕ × Store) (k : Node) → x ≡ intern (storeOf w) k → (r : Made) (w′ u : List ℕ) → Extends w z top (intern (storeOf w) k) r w′ u → Outcome m w₀ zb top x r w′ u
+  pub extended : (x : ℕ × Store) (k : Node) → x ≡ intern (storeOf w) k → (r : Made) (w′ u : List ℕ) → Extends w z top (intern (storeOf w) k) r w′ u → Outcome m w₀
+      zb top x r w′ u
   extended x k e (At c) w′ u g =
       let o : storeOf w′ ≡ intern (storeOf w) k .1 = g .store in
       let grown : Grew (storeOf w) (storeOf w′) = rw o (intern-grew (storeOf w) k) in

@@ -1,10 +1,11 @@
 -- Where the pool stands after a record: parents' records end before their child's entries, which is why the entry stack is long enough.
+-- Nothing here has to be believed.
 use mathlib.Core.Path.{_≡_, refl, ap, _∙_}
 use mathlib.Core.List.{[], _∷_, _++_}
 use Prim.Native.Nat.{ℕ, suc, _<_, _≤_, _+_}
 use native.Mathlib.Omega.{arith}
 use lib.ListN.{length, length-append}
-use Rattle.stacks.specs.Compare.{two}
+use Rattle.cases.specs.Numbers.{two}
 use Rattle.arena.specs.Store.{Store, nodeAt}
 use Rattle.arena.specs.Trees.{node-old}
 use Rattle.arena.specs.Placed.{Grew}
@@ -19,7 +20,7 @@ older-pool : (s : Store) (j : ℕ) → pool (older s j) ≤ pool s
 unfolding older pool
 older-pool [] j = omega arith
 older-pool (n ∷ s) j =
-    Rattle.stacks.specs.Compare.three j (suc (length s))
+    Rattle.cases.specs.Numbers.three j (suc (length s))
     (λ l. rw (older-part n s j (omega arith)) (omega (arith, older-pool s j)))
     (λ e. rw (older-all (n ∷ s) j (omega arith)) (omega arith))
     (λ l. rw (older-all (n ∷ s) j (omega arith)) (omega arith))

@@ -1,4 +1,4 @@
--- The needs of `merge_two_entries`: both sides have one entry.
+-- The needs of `merge_two_entries`: both sides have one entry. Nothing here has to be believed.
 use mathlib.Core.Path.{_≡_, refl, ap, _∙_}
 use mathlib.Core.Bool.{Bool}
 use mathlib.Core.List.{List}
@@ -8,24 +8,24 @@ use Rattle.arena.specs.Store.{Node, end, nodeAt}
 use Rattle.arena.specs.Kinds.{size}
 use Rattle.arena.specs.Room.{room}
 use Rattle.arena.specs.Place.{mergeS, intern}
-use Rattle.layout.specs.Layout.{stackParent, stackState}
+use Rattle.layout.specs.Scratch.{stackParent, stackState}
 use Rattle.layout.specs.Listing.{listing}
 use Rattle.layout.specs.Decode.{storeOf}
-use Rattle.layout.specs.Encode.{Fits}
+use Rattle.layout.specs.Ceilings.{Fits}
 use Rattle.index.specs.Records.{stackNode}
-use Rattle.index.specs.Stores.{putEntry}
-use Rattle.contexts.specs.Live.{Pushed}
-use Rattle.contexts.specs.Interned.{Interns}
-use Rattle.contexts.specs.Rest.{headState, headParent, rest, rest-size, size-none}
-use Rattle.contexts.specs.Onto.{onto, onto-listing}
+use Rattle.index.specs.Writes.{putEntry}
+use Rattle.interning.specs.Live.{Pushed}
+use Rattle.interning.specs.Interned.{Interns}
+use Rattle.contexts.specs.EntriesFrom.{headState, headParent, rest, rest-size, size-none}
+use Rattle.contexts.specs.StackAhead.{onto, onto-listing}
 use Rattle.contexts.specs.Ends.{ends-le}
 use Rattle.contexts.specs.Merging.{Mergeable, Merged, Stuck, Outcome}
-use Rattle.contexts.specs.Finish.{Extends, interns-extends}
-use Rattle.contexts.specs.Last.{Plain, plain-size, Lasting, withLast}
-use Rattle.contexts.specs.Now.{plain-now, head-le}
-use Rattle.contexts.specs.Given.{TwoEntries, Fitting}
-use Rattle.contexts.specs.Inner.{Go, Heads, go-start, is-left, is-right, outcome, take-lower-left, take-lower-right, take-both-heads, no-room, inner, parents-fall}
-use Rattle.contexts.specs.declared.intern.Made.{Made}
+use Rattle.contexts.specs.WithRest.{Extends, interns-extends}
+use Rattle.contexts.specs.WithSingle.{Plain, plain-size, Lasting, withLast}
+use Rattle.contexts.specs.SideWords.{plain-now, head-le}
+use Rattle.contexts.specs.SideKinds.{TwoEntries, Fitting}
+use Rattle.contexts.specs.MergeStep.{Go, Heads, go-start, is-left, is-right, outcome, take-lower-left, take-lower-right, take-both-heads, no-room, inner, parents-fall}
+use Rattle.interning.specs.declared.inner.intern.Made.{Made}
 
 -- from place 0 on
 rest-none : (n : Node) → rest n 0 ≡ n

@@ -1,33 +1,37 @@
--- What the cycle of merges asks and leaves, and what a merge of two records' entries keeps from entry to entry.
+-- What the cycle of merges asks and leaves, and what a merge of two records' entries keeps from entry to entry. Nothing here has to be believed.
 use mathlib.Core.Path.{_≡_, refl, sym, ap, _∙_}
 use mathlib.Core.Bool.{Bool}
 use mathlib.Core.List.{List}
 use Prim.Native.Nat.{ℕ, suc, _<_, _≤_, _+_, _*_}
 use native.Mathlib.Omega.{arith}
 use lib.ListN.{length, getD}
-use Rattle.arena.specs.Store.{Node, end, Store, Rise, Full}
+use Rattle.arena.specs.Store.{Node, end, Store}
+use Rattle.arena.specs.Soundness.{Rise, Full}
 use Rattle.arena.specs.Kinds.{size}
 use Rattle.arena.specs.Below.{NodeBelow}
 use Rattle.arena.specs.Place.{mergeS, intern}
 use Rattle.arena.specs.Placed.{Grew, grew-refl, grew-trans, grew-length, placeE-grew, intern-grew}
 use Rattle.arena.specs.Steps.{mergeN, merge-grew, merge-holds, merge-same}
-use Rattle.arena.specs.Room.{room-grew}
-use Rattle.layout.specs.Layout.{scratchWords, stop, stackParent, stackState}
-use Rattle.layout.specs.Listing.{Entries}
+use Rattle.arena.specs.Room.Laws.{room-grew}
+use Rattle.layout.specs.Layout.{scratchWords, stop}
+use Rattle.layout.specs.Scratch.{stackParent, stackState}
+use Rattle.layout.specs.Listing.Laws.{Entries}
 use Rattle.layout.specs.Decode.{storeOf}
-use Rattle.layout.specs.Encode.{Fits, wordsOf}
+use Rattle.layout.specs.Ceilings.{Fits}
+use Rattle.layout.specs.Encode.{wordsOf}
 use Rattle.encoding.specs.Good.{GoodStore}
 use Rattle.index.specs.Grow.{index-frame}
-use Rattle.index.specs.Stores.{putEntry}
+use Rattle.index.specs.Writes.{putEntry}
 use Rattle.cache.specs.Right.{CacheRight, right-frame}
 use Rattle.cache.specs.Cache.{cacheWord}
-use Rattle.contexts.specs.Live.{Live}
-use Rattle.contexts.specs.Rest.{headState, headParent, rest, rest-next, rest-size, size-full, rest-rise, rest-below, head-rises, head-most, head-older, head-dollar, step-less, step-greater, step-equal}
-use Rattle.contexts.specs.Onto.{onto}
+use Rattle.interning.specs.Live.{Live}
+use Rattle.contexts.specs.EntriesFrom.{headState, headParent, rest, rest-next, rest-size, size-full, rest-rise, rest-below, head-rises, head-most, head-older, head-dollar, step-less}
+use Rattle.contexts.specs.EntriesFrom.{step-greater, step-equal}
+use Rattle.contexts.specs.StackAhead.{onto}
 use Rattle.contexts.specs.Ends.{ends}
-use Rattle.contexts.specs.Stack.{SameStack, Under, under-le, moved-entries, moved-under, moved-onto, push-length, push-between, push-under, push-onto, push-entries}
-use Rattle.contexts.specs.declared.intern.Made.{Made}
-use Rattle.contexts.specs.declared.intern.Made.the-variants.{At, NoRoom}
+use Rattle.contexts.specs.StackEntry.{SameStack, Under, under-le, moved-entries, moved-under, moved-onto, push-length, push-between, push-under, push-onto, push-entries}
+use Rattle.interning.specs.declared.inner.intern.Made.{Made}
+use Rattle.interning.specs.declared.inner.intern.Made.the-variants.{At, NoRoom}
 
 -- what a merge of a and b, of the kind m, with the stack in use up to `top`, is given
 pub record Mergeable (m : Bool) (w z : List ℕ) (a b top : ℕ) : Type 0 where
@@ -126,10 +130,12 @@ module _ (m : Bool) (s₀ : Store) (n₀ k₀ : Node) (top : ℕ) (zb w z : List
 
   -- the next head of a side is above the one that is taken
   next-left : suc i < size n₀ → headState (rest n₀ i) < headState (rest n₀ (suc i))
-  next-left h = rw (rest-next n₀ i) at (head-rises (rest n₀ i) 0 (length (storeOf w)) N-rise N-below (rw (rest-next n₀ i) (size-full (rest n₀ (suc i)) (rw (rest-size n₀ (suc i)) (omega arith)))))
+  next-left h = rw (rest-next n₀ i) at (head-rises (rest n₀ i) 0 (length (storeOf w)) N-rise N-below
+      (rw (rest-next n₀ i) (size-full (rest n₀ (suc i)) (rw (rest-size n₀ (suc i)) (omega arith)))))
 
   next-right : suc j < size k₀ → headState (rest k₀ j) < headState (rest k₀ (suc j))
-  next-right h = rw (rest-next k₀ j) at (head-rises (rest k₀ j) 0 (length (storeOf w)) K-rise K-below (rw (rest-next k₀ j) (size-full (rest k₀ (suc j)) (rw (rest-size k₀ (suc j)) (omega arith)))))
+  next-right h = rw (rest-next k₀ j) at (head-rises (rest k₀ j) 0 (length (storeOf w)) K-rise K-below
+      (rw (rest-next k₀ j) (size-full (rest k₀ (suc j)) (rw (rest-size k₀ (suc j)) (omega arith)))))
 
   some : 0 < length (storeOf w)
   some = v .live .good .some
@@ -205,7 +211,8 @@ module _ (m : Bool) (s₀ : Store) (n₀ k₀ : Node) (top : ℕ) (zb w z : List
         grew = grew-trans s₀ s (storeOf w₁) (v .grew) g₁;
         between = λ o a b. same o (omega arith) ∙ g .between o a (omega arith) ∙ v .between o a b;
         few = omega (arith, v .few);
-        entries = push-entries z₁ top n _ _ l r y ey (length (storeOf w₁)) (moved-entries z z₁ top n (g .between) (length s) (length (storeOf w₁)) (grew-length s (storeOf w₁) g₁) (v .entries)) (head-most (rest n₀ i) N-below) known (both-dollar e) under;
+        entries = push-entries z₁ top n _ _ l r y ey (length (storeOf w₁))
+            (moved-entries z z₁ top n (g .between) (length s) (length (storeOf w₁)) (grew-length s (storeOf w₁) g₁) (v .entries)) (head-most (rest n₀ i) N-below) known (both-dollar e) under;
         underLeft = λ o. push-under z₁ top n _ _ l r y ey (headState (rest n₀ (suc i))) (under-le z₁ top n _ _ (omega (arith, next-left o)) under) (next-left o);
         underRight = λ o. push-under z₁ top n _ _ l r y ey (headState (rest k₀ (suc j))) (under-le z₁ top n _ _ (omega (arith, next-right o)) (rw h at under)) (rw h (next-right o));
         going =
@@ -256,17 +263,20 @@ merging-start m w z n k top v c = record {
 }
 
 rest-all : (n : Node) (i : ℕ) → size n ≤ i → rest n i ≡ end
-rest-all n i h = Rattle.contexts.specs.Rest.size-none (rest n i) (rest-size n i ∙ omega arith)
+rest-all n i h = Rattle.contexts.specs.EntriesFrom.size-none (rest n i) (rest-size n i ∙ omega arith)
 
-module _ (m : Bool) (s₀ : Store) (n₀ k₀ : Node) (top : ℕ) (zb w z : List ℕ) (i j n : ℕ) (sn : Sorted s₀ n₀) (sk : Sorted s₀ k₀) (v : Merging m s₀ n₀ k₀ top zb w z i j n) where
+module _ (m : Bool) (s₀ : Store) (n₀ k₀ : Node) (top : ℕ) (zb w z : List ℕ) (i j n : ℕ) (sn : Sorted s₀ n₀) (sk : Sorted s₀ k₀)
+    (v : Merging m s₀ n₀ k₀ top zb w z i j n) where
   pub left-done : size n₀ ≤ i → mergeN m s₀ n₀ k₀ ≡ (onto (stackState z) (stackParent z) top n (rest k₀ j), storeOf w)
   left-done h =
-      let e = Rattle.arena.specs.Steps.entries-end-left m (storeOf w) (v .live .good .sound) 0 (rest k₀ j) (rest-rise k₀ j 0 (length (storeOf w)) (rise-grew s₀ (storeOf w) k₀ (v .grew) (sk .rise))) in
+      let e = Rattle.arena.specs.Steps.entries-end-left m (storeOf w) (v .live .good .sound) 0 (rest k₀ j)
+      (rest-rise k₀ j 0 (length (storeOf w)) (rise-grew s₀ (storeOf w) k₀ (v .grew) (sk .rise))) in
       rw (rest-all n₀ i h, e) at (v .going)
 
   pub right-done : size k₀ ≤ j → mergeN m s₀ n₀ k₀ ≡ (onto (stackState z) (stackParent z) top n (rest n₀ i), storeOf w)
   right-done h =
-      let e = Rattle.arena.specs.Steps.entries-end-right m (storeOf w) (v .live .good .sound) 0 (rest n₀ i) (rest-rise n₀ i 0 (length (storeOf w)) (rise-grew s₀ (storeOf w) n₀ (v .grew) (sn .rise))) in
+      let e = Rattle.arena.specs.Steps.entries-end-right m (storeOf w) (v .live .good .sound) 0 (rest n₀ i)
+      (rest-rise n₀ i 0 (length (storeOf w)) (rise-grew s₀ (storeOf w) n₀ (v .grew) (sn .rise))) in
       rw (rest-all k₀ j h, e) at (v .going)
 
 -- ---- lengths are kept

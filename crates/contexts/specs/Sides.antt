@@ -1,4 +1,4 @@
--- The two sides of a merge that is not settled at once.
+-- The two sides of a merge that is not settled at once. Nothing here has to be believed.
 use mathlib.Core.Path.{_≡_, refl}
 use mathlib.Core.Logic.{_⊎_, inr}
 use mathlib.Core.Bool.{Bool, true, false}

@@ -5,14 +5,14 @@ use crate::finish::intern_with_rest;
 use crate::finish::intern_with_single;
 use crate::finish::single_parent;
 use crate::finish::single_state;
-use crate::intern::Made;
-use crate::intern::intern_entries;
-use cache::Known;
+use cache::Recall;
+use interning::inner::intern::Made;
+use interning::inner::intern::intern_entries;
 use words::ContextId;
 ghost use Prim.Native.Nat.{_<_};
 ghost use Rattle.arena.specs.Place.{mergeS};
 ghost use Rattle.layout.specs.Decode.{storeOf};
-ghost use Rattle.contexts.specs.Given.{ArrayAndEntry, TwoArrays, TwoEntries, Unsettled};
+ghost use Rattle.contexts.specs.SideKinds.{ArrayAndEntry, TwoArrays, TwoEntries, Unsettled};
 ghost use Rattle.contexts.specs.Merging.{Mergeable, Outcome};
 ghost use Rattle.contexts.specs.Sides.{Swallows};
 
@@ -39,7 +39,8 @@ pub fn merge(
     top: usize,
 ) -> Made
     requires { ⌜ Mergeable wildcard (now store) (now scratch) (left .0) (right .0) top ⌝ }
-    ensures { λ r. ⌜ Outcome wildcard (now (store .entry)) (now (scratch .entry)) top (mergeS wildcard (storeOf (now (store .entry))) (left .0) (right .0)) r (now (store .exit)) (now (scratch .exit)) ⌝ }
+    ensures { λ r. ⌜ Outcome wildcard (now (store .entry)) (now (scratch .entry)) top (mergeS wildcard (storeOf (now (store .entry))) (left .0) (right .0)) r (now (store .exit))
+        (now (scratch .exit)) ⌝ }
 {
     if left.0 == right.0 {
         return Made::At(left);
@@ -48,7 +49,7 @@ pub fn merge(
         return Made::At(ContextId(0));
     }
     let known = cache::cached(scratch, left, right);
-    if let Known::As(context) = known {
+    if let Recall::As(context) = known {
         return Made::At(context);
     }
     let made = merge_uncached(store, scratch, left, right, wildcard, top);
@@ -69,10 +70,11 @@ fn merge_uncached(
     top: usize,
 ) -> Made
     requires { ⌜ Unsettled wildcard (now store) (now scratch) (left .0) (right .0) top ⌝ }
-    ensures { λ r. ⌜ Outcome wildcard (now (store .entry)) (now (scratch .entry)) top (mergeS wildcard (storeOf (now (store .entry))) (left .0) (right .0)) r (now (store .exit)) (now (scratch .exit)) ⌝ }
+    ensures { λ r. ⌜ Outcome wildcard (now (store .entry)) (now (scratch .entry)) top (mergeS wildcard (storeOf (now (store .entry))) (left .0) (right .0)) r (now (store .exit))
+        (now (scratch .exit)) ⌝ }
 {
-    let left_kind = index::kind_of(store, left.0 as usize);
-    let right_kind = index::kind_of(store, right.0 as usize);
+    let left_kind = layout::kind_of(store, left.0 as usize);
+    let right_kind = layout::kind_of(store, right.0 as usize);
     if left_kind == 2 {
         if right_kind == 2 {
             return merge_arrays(store, scratch, left, right, wildcard, top);
@@ -95,7 +97,8 @@ fn merge_two_entries(
     top: usize,
 ) -> Made
     requires { ⌜ TwoEntries wildcard (now store) (now scratch) (left .0) (right .0) top ⌝ }
-    ensures { λ r. ⌜ Outcome wildcard (now (store .entry)) (now (scratch .entry)) top (mergeS wildcard (storeOf (now (store .entry))) (left .0) (right .0)) r (now (store .exit)) (now (scratch .exit)) ⌝ }
+    ensures { λ r. ⌜ Outcome wildcard (now (store .entry)) (now (scratch .entry)) top (mergeS wildcard (storeOf (now (store .entry))) (left .0) (right .0)) r (now (store .exit))
+        (now (scratch .exit)) ⌝ }
 {
     let left_at = left.0 as usize;
     let right_at = right.0 as usize;
@@ -136,13 +139,14 @@ fn merge_array_with_entry(
     top: usize,
 ) -> Made
     requires { ⌜ ArrayAndEntry wildcard (now store) (now scratch) (array .0) (single .0) top ⌝ }
-    ensures { λ r. ⌜ Outcome wildcard (now (store .entry)) (now (scratch .entry)) top (mergeS wildcard (storeOf (now (store .entry))) (array .0) (single .0)) r (now (store .exit)) (now (scratch .exit)) ⌝ }
+    ensures { λ r. ⌜ Outcome wildcard (now (store .entry)) (now (scratch .entry)) top (mergeS wildcard (storeOf (now (store .entry))) (array .0) (single .0)) r (now (store .exit))
+        (now (scratch .exit)) ⌝ }
 {
     let array_at = array.0 as usize;
     let single_at = single.0 as usize;
     let parent = single_parent(store, single_at);
     let state = single_state(store, single_at);
-    let length = index::second_of(store, array_at) as usize;
+    let length = layout::second_of(store, array_at) as usize;
     let mut i = 0;
     while i < length {
         let other = array_state(store, array_at, i);
@@ -182,12 +186,13 @@ fn merge_arrays(
     top: usize,
 ) -> Made
     requires { ⌜ TwoArrays wildcard (now store) (now scratch) (left .0) (right .0) top ⌝ }
-    ensures { λ r. ⌜ Outcome wildcard (now (store .entry)) (now (scratch .entry)) top (mergeS wildcard (storeOf (now (store .entry))) (left .0) (right .0)) r (now (store .exit)) (now (scratch .exit)) ⌝ }
+    ensures { λ r. ⌜ Outcome wildcard (now (store .entry)) (now (scratch .entry)) top (mergeS wildcard (storeOf (now (store .entry))) (left .0) (right .0)) r (now (store .exit))
+        (now (scratch .exit)) ⌝ }
 {
     let left_at = left.0 as usize;
     let right_at = right.0 as usize;
-    let left_length = index::second_of(store, left_at) as usize;
-    let right_length = index::second_of(store, right_at) as usize;
+    let left_length = layout::second_of(store, left_at) as usize;
+    let right_length = layout::second_of(store, right_at) as usize;
     let mut i = 0;
     let mut j = 0;
     let mut n = 0;

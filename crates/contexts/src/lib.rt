@@ -1,11 +1,6 @@
-// Contexts of a store: interning, which is private, singletons and merges.
+// The merge of two contexts: the cycle of merges, and the call over it.
 mod cycle;
 mod finish;
-mod intern;
 mod merges;
-mod single;
-mod write;
 
 pub use merges::merge;
-pub use single::Numbered;
-pub use single::singleton;

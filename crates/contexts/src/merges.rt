@@ -1,7 +1,7 @@
 // The merge of two contexts, full-context or by wildcard.
 use crate::cycle;
-use crate::intern::Made;
-use crate::single::Numbered;
+use interning::Numbered;
+use interning::inner::intern::Made;
 use store::inner::admit::Admitted;
 use store::inner::admit::admit;
 use store::inner::cut::cut_back;
@@ -12,11 +12,11 @@ ghost use Prim.Native.Nat.{_<_};
 ghost use Rattle.arena.specs.Place.{mergeS};
 ghost use Rattle.layout.specs.Decode.{storeOf};
 ghost use Rattle.layout.specs.Layout.{count};
-ghost use Rattle.store.specs.Calls.{grown};
-ghost use Rattle.store.specs.Calls.{left as leaves};
-ghost use Rattle.contexts.specs.Calls.{mergeCall};
-ghost use Rattle.contexts.specs.Live.{Live};
-ghost use Rattle.contexts.specs.Replies.{numbered};
+ghost use Rattle.store.specs.Nested.{grown};
+ghost use Rattle.store.specs.Calls.{leaves};
+ghost use Rattle.contexts.specs.MergeCall.{mergeCall};
+ghost use Rattle.interning.specs.Live.{Live};
+ghost use Rattle.interning.specs.Replies.{numbered};
 
 // Merges two known contexts of a live store. Where there is no room, what was made is taken out again.
 fn merge_known(
@@ -29,8 +29,8 @@ fn merge_known(
     requires { ⌜ Live (now store) (now scratch) × (left .0 < count (now store)) × (right .0 < count (now store)) ⌝ }
     ensures { λ r. ⌜ leaves (numbered r) (now (store .exit)) (now (scratch .exit)) ≡ grown (now (store .entry)) (mergeS wildcard (storeOf (now (store .entry))) (left .0) (right .0)) ⌝ }
 {
-    let count = index::count_of(store) as usize;
-    let used = index::used_of(store) as usize;
+    let count = layout::count_of(store) as usize;
+    let used = layout::used_of(store) as usize;
     cache::clear_cache(scratch);
     let made = cycle::merge(store, scratch, left, right, wildcard, 0);
     let Made::At(context) = made else {
@@ -56,7 +56,7 @@ pub fn merge(
     if let Admitted::Refused(refusal) = admitted {
         return Numbered::Refused(refusal);
     }
-    if index::count_of(store) <= right.0 {
+    if layout::count_of(store) <= right.0 {
         words::clear(scratch);
         return Numbered::Refused(Refusal::UnknownContext);
     }

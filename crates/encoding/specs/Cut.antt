@@ -1,4 +1,4 @@
--- Words cut back to an older store: its counts, and zeros above its records and its pool entries.
+-- Words cut back to an older store: its counts, and zeros above its records and its pool entries. Nothing here has to be believed.
 use mathlib.Core.Path.{_≡_, _∙_, subst}
 use mathlib.Core.List.{List, [], _∷_, _++_}
 use Prim.Native.Nat.{ℕ, _<_, _≤_, _+_, _*_}
@@ -8,11 +8,13 @@ use Rattle.words.specs.Lent.{clearedRange}
 use Rattle.words.specs.Lent.Laws.{length-clearedRange, clearedRange-before, clearedRange-inside, clearedRange-after}
 use Rattle.arena.specs.Store.{Store}
 use Rattle.arena.specs.Placed.{Grew}
-use Rattle.arena.specs.Room.{pool, room-grew}
+use Rattle.arena.specs.Room.{pool}
+use Rattle.arena.specs.Room.Laws.{room-grew}
 use Rattle.layout.specs.Layout.{storeWords, count, used, parent, state}
-use Rattle.layout.specs.Encode.{putCounts, wordsOf, Fits}
+use Rattle.layout.specs.Encode.{putCounts, wordsOf}
+use Rattle.layout.specs.Ceilings.{Fits}
 use Rattle.encoding.specs.Good.{GoodStore}
-use Rattle.encoding.specs.Places.{below?}
+use Rattle.cases.specs.Numbers.{below?}
 use Rattle.encoding.specs.Held.{Records, Held, Agree, records-agree, held-unique}
 use Rattle.encoding.specs.Writes.{length-putCounts, counts-other, counts-count, counts-used}
 use Rattle.encoding.specs.Written.{words-held}

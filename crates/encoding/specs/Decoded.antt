@@ -1,18 +1,23 @@
 -- Sound words hold a good store, and are the words of that store: with `encoded`, sound words are exactly those of a good store.
+-- Nothing here has to be believed.
 use mathlib.Core.Path.{_≡_, refl, sym, ap, _∙_, subst}
 use mathlib.Core.Logic.{inl, inr, _↔_}
 use mathlib.Core.List.{List}
 use Prim.Native.Nat.{ℕ, zero, suc, _<_, _≤_, _+_}
 use native.Mathlib.Omega.{arith}
 use lib.ListN.{length}
-use Rattle.arena.specs.Store.{Node, end, dollar, push, Store, nowhere, find, Rise, Full, Sound}
+use Rattle.arena.specs.Store.{Node, end, dollar, push, Store, nowhere, find}
+use Rattle.arena.specs.Soundness.{Rise, Full, Sound}
 use Rattle.arena.specs.Trees.{find?, find-at}
-use Rattle.arena.specs.Kinds.{kindOf, kind-many, size}
+use Rattle.arena.specs.Kinds.{kindOf, size}
+use Rattle.arena.specs.Kinds.Laws.{kind-many}
 use Rattle.arena.specs.Room.{room, pool}
 use Rattle.arena.specs.Below.{NodeBelow, StoreBelow}
 use Rattle.layout.specs.Layout.{storeWords, stop, count, used, kind, first, second, parent, state}
-use Rattle.layout.specs.Listing.{listing, listing-size, listing-rise, listing-below, listing-full, listing-inj, Entries}
-use Rattle.layout.specs.Decode.{nodeIn, storeIn, storeOf, store-length, store-node, node-zero, node-one, node-many}
+use Rattle.layout.specs.Listing.{listing}
+use Rattle.layout.specs.Listing.Laws.{listing-size, listing-rise, listing-below, listing-full, listing-inj, Entries}
+use Rattle.layout.specs.Decode.{nodeIn, storeIn, storeOf}
+use Rattle.layout.specs.Decode.Laws.{store-length, store-node, node-zero, node-one, node-many}
 use Rattle.layout.specs.Sound.{SoundWords, SameSingletons, SameArrays, lengths}
 use Rattle.layout.specs.Encode.{wordsOf}
 use Rattle.encoding.specs.Reads.{lengths-zero, lengths-one, lengths-two, kind-zero, kind?, single-reads, array-entries}

@@ -1,19 +1,22 @@
--- The words of a good store are sound, and hold that store.
+-- The words of a good store are sound, and hold that store. Nothing here has to be believed.
 use mathlib.Core.Path.{_≡_, refl, sym, ap, _∙_}
 use mathlib.Core.Logic.{_⊎_, inl, inr, ⊎-elim}
 use mathlib.Core.List.{List, [], _∷_}
 use Prim.Native.Nat.{ℕ, suc, _<_, _≤_, _+_}
 use native.Mathlib.Omega.{arith}
 use lib.ListN.{length}
-use Rattle.stacks.specs.Compare.{two}
-use Rattle.arena.specs.Store.{Node, end, dollar, push, Store, nodeAt, Rise, Full, Sound}
+use Rattle.cases.specs.Numbers.{two}
+use Rattle.arena.specs.Store.{Node, end, dollar, push, Store, nodeAt}
+use Rattle.arena.specs.Soundness.{Rise, Full, Sound}
 use Rattle.arena.specs.Trees.{node-new, node-old, node-sound, nodes-differ}
 use Rattle.arena.specs.Kinds.{kindOf, size}
 use Rattle.arena.specs.Room.{room, pool}
 use Rattle.arena.specs.Below.{NodeBelow, StoreBelow}
 use Rattle.layout.specs.Layout.{stop, count, used, kind, first, second, parent, state}
-use Rattle.layout.specs.Listing.{listing, listing-agree, Entries}
-use Rattle.layout.specs.Decode.{nodeIn, storeIn, storeOf, store-node, node-zero, node-one, node-many}
+use Rattle.layout.specs.Listing.{listing}
+use Rattle.layout.specs.Listing.Laws.{listing-agree, Entries}
+use Rattle.layout.specs.Decode.{nodeIn, storeIn, storeOf}
+use Rattle.layout.specs.Decode.Laws.{store-node, node-zero, node-one, node-many}
 use Rattle.layout.specs.Sound.{SoundWords, Parent, ofSingleton, ofEntry, SameSingletons, SameArrays, lengths}
 use Rattle.layout.specs.Encode.{wordsOf}
 use Rattle.encoding.specs.Reads.{lengths-zero, lengths-one, lengths-two}

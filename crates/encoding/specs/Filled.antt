@@ -1,13 +1,15 @@
--- Entries laid out place by place, and that this is the same as being listed from there.
+-- Entries laid out place by place, and that this is the same as being listed from there. Nothing here has to be believed.
 use mathlib.Core.Path.{_≡_, refl, sym, _∙_}
 use Prim.Native.Nat.{ℕ, zero, suc, _<_, _≤_, _+_}
 use native.Mathlib.Omega.{arith}
-use Rattle.stacks.specs.Compare.{two}
-use Rattle.arena.specs.Store.{Node, end, dollar, push, Rise}
+use Rattle.cases.specs.Numbers.{two}
+use Rattle.arena.specs.Store.{Node, end, dollar, push}
+use Rattle.arena.specs.Soundness.{Rise}
 use Rattle.arena.specs.Kinds.{size}
 use Rattle.arena.specs.Below.{NodeBelow}
 use Rattle.layout.specs.Layout.{stop}
-use Rattle.layout.specs.Listing.{listing, listing-stop, listing-more, Entries, entries-rest}
+use Rattle.layout.specs.Listing.{listing}
+use Rattle.layout.specs.Listing.Laws.{listing-stop, listing-more, Entries, entries-rest}
 
 -- from place i on stand the states and the parents of n
 abbrev pub Filled : (ℕ → ℕ) → (ℕ → ℕ) → ℕ → Node → Type 0

@@ -1,16 +1,16 @@
--- What it is for words to hold a store, word by word; and the words that hold a store are determined by it.
+-- What it is for words to hold a store, word by word; and the words that hold a store are determined by it. Nothing here has to be believed.
 use mathlib.Core.Path.{_≡_, refl, sym, _∙_}
 use mathlib.Core.List.{List, [], _∷_}
 use Prim.Native.Nat.{ℕ, _<_, _≤_, _+_, _*_}
 use native.Mathlib.Omega.{arith}
 use lib.ListN.{length, getD}
 use lib.Seq.{ext-getD}
-use Rattle.stacks.specs.Compare.{two}
+use Rattle.cases.specs.Numbers.{two, below?}
 use Rattle.arena.specs.Store.{Node, end, dollar, push, Store}
 use Rattle.arena.specs.Kinds.{kindOf, size}
 use Rattle.arena.specs.Room.{room, pool}
 use Rattle.layout.specs.Layout.{storeWords, count, used, kind, first, second, parent, state}
-use Rattle.encoding.specs.Places.{below?, by-place}
+use Rattle.encoding.specs.Places.{by-place}
 use Rattle.encoding.specs.Filled.{Filled, filled-agree, filled-same}
 
 -- the three words of a record of the entries n, whose pool entries, if it has any, start at place i

@@ -1,15 +1,9 @@
--- Every place among a store's words is a count, a word of a record, a parent or a state.
+-- Every place among a store's words is a count, a word of a record, a parent or a state. Nothing here has to be believed.
 use mathlib.Core.Path.{_≡_, sym, subst}
 use Prim.Native.Nat.{ℕ, _<_, _≤_, _+_, _-_}
 use native.Mathlib.Omega.{arith}
-use native.Mathlib.Decide.{decLe}
-use native.Mathlib.Nat.{lt-of-not-le}
-use Rattle.stacks.specs.Compare.{two}
+use Rattle.cases.specs.Numbers.{two, below?}
 use Rattle.layout.specs.Layout.{storeWords}
-
--- below or not
-pub below? {ℓ} : {X : Type ℓ} (a b : ℕ) → (a < b → X) → (b ≤ a → X) → X
-below? a b less more = elim (decLe b a) [ no n ↦ less (lt-of-not-le n) | yes p ↦ more p ]
 
 pub by-place : (P : ℕ → Type 0) → P 0 → P 1
     → ((j : ℕ) → 2 ≤ j → j < 1538 → P j)

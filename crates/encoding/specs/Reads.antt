@@ -1,12 +1,12 @@
--- What sound words say of one record: its kind, and the words that go with that kind.
+-- What sound words say of one record: its kind, and the words that go with that kind. Nothing here has to be believed.
 use mathlib.Core.Path.{_≡_, sym, ap, _∙_}
 use mathlib.Core.Logic.{_⊎_, inl, inr}
 use mathlib.Core.List.{List}
 use Prim.Native.Nat.{ℕ, zero, suc, _<_, _≤_, _+_, _-_}
 use native.Mathlib.Omega.{arith}
-use Rattle.stacks.specs.Compare.{two}
+use Rattle.cases.specs.Numbers.{two}
 use Rattle.layout.specs.Layout.{stop, count, used, kind, first, second, parent, state}
-use Rattle.layout.specs.Listing.{Entries}
+use Rattle.layout.specs.Listing.Laws.{Entries}
 use Rattle.layout.specs.Sound.{SoundWords, ofSingleton, ofEntry, lengths}
 
 -- ---- the pool entries of the first records

@@ -1,4 +1,4 @@
--- What each write leaves, place by place: the word written, and every other word as it was.
+-- What each write leaves, place by place: the word written, and every other word as it was. Nothing here has to be believed.
 use mathlib.Core.Path.{_≡_, refl, _∙_}
 use mathlib.Core.Logic.{_≢_}
 use mathlib.Core.List.{List}

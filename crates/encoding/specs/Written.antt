@@ -1,4 +1,4 @@
--- The words of a store hold it: writing one record more leaves the older ones as they were.
+-- The words of a store hold it: writing one record more leaves the older ones as they were. Nothing here has to be believed.
 use mathlib.Core.Path.{_≡_, refl, sym, ap, _∙_}
 use mathlib.Core.Logic.{_≢_}
 use mathlib.Core.List.{List, [], _∷_}
@@ -9,10 +9,12 @@ use lib.Seq.{set-getD}
 use Rattle.arena.specs.Store.{Node, end, dollar, push, Store}
 use Rattle.arena.specs.Room.{room, pool}
 use Rattle.layout.specs.Layout.{storeWords, blank, count, used, kind, first, second, parent, state}
-use Rattle.layout.specs.Encode.{fill, putRecord, putCounts, putNode, written, wordsOf, Fits}
+use Rattle.layout.specs.Encode.{fill, putRecord, putCounts, putNode, written, wordsOf}
+use Rattle.layout.specs.Ceilings.{Fits}
 use Rattle.encoding.specs.Filled.{filled-agree}
 use Rattle.encoding.specs.Held.{kindWord, firstWord, secondWord, inPool, size-inPool, Recorded, Held, Agree, records-agree}
-use Rattle.encoding.specs.Writes.{length-fill, length-putRecord, length-putCounts, length-putNode, length-blank, getD-blank, counts-other, counts-count, counts-used, record-other, record-kind, record-first, record-second, Outside, fill-other, fill-filled}
+use Rattle.encoding.specs.Writes.{length-fill, length-putRecord, length-putCounts, length-putNode, length-blank, getD-blank, counts-other, counts-count, counts-used, record-other}
+use Rattle.encoding.specs.Writes.{record-kind, record-first, record-second, Outside, fill-other, fill-filled}
 
 -- ---- one record more
 

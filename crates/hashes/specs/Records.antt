@@ -1,4 +1,5 @@
--- A record: sixteen 64-bit words, little-endian, of which word 0 counts the list, words 1 to 14 are the list and word 15 is its hash. Assumes nothing: these are definitions.
+-- A record: sixteen 64-bit words, little-endian, of which word 0 counts the list, words 1 to 14 are the list and word 15 is its hash.
+-- Nothing here has to be believed.
 use Prim.Native.Nat.{ℕ, suc, zero, _+_, _*_}
 use mathlib.Core.Bool.{Bool, true, false}
 use mathlib.Core.List.{List, [], _∷_, _++_}

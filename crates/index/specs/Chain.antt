@@ -1,4 +1,5 @@
 -- Chains of contexts by bucket, newest first: every context that a link skips is in another bucket, and equal records share a bucket.
+-- Nothing here has to be believed.
 use mathlib.Core.Path.{_≡_, refl, sym, ap, _∙_}
 use mathlib.Core.Bool.{true, false}
 use mathlib.Core.List.{[], _∷_}
@@ -7,8 +8,9 @@ use native.Mathlib.Omega.{arith}
 use lib.Dec.{eqb}
 use lib.ListN.{length}
 use borrow.Author.Tests.{eq-eqb, ne-eqb}
-use Rattle.stacks.specs.Compare.{two}
-use Rattle.arena.specs.Store.{Node, Store, nodeAt, same, find, at, nowhere, Sound}
+use Rattle.cases.specs.Numbers.{two}
+use Rattle.arena.specs.Store.{Node, Store, nodeAt, same, find, at, nowhere}
+use Rattle.arena.specs.Soundness.{Sound}
 use Rattle.arena.specs.Trees.{same?, same-true, find-new, find-old}
 use Rattle.index.specs.Hash.{nodeHash, hash, bucketOf, hash-new, hash-old, nodeHash-agree}
 use Rattle.index.specs.Older.{older, older-all, older-part, older-length, older-next, older-sound}

@@ -1,4 +1,4 @@
--- What a lookup answers, as the definition's answer.
+-- What a lookup answers, as the definition's answer. Nothing here has to be believed.
 use Rattle.arena.specs.Store.{at, nowhere}
 use Rattle.index.specs.declared.find.Lookup.{Lookup}
 use Rattle.index.specs.declared.find.Lookup.the-variants.{At, Nowhere}

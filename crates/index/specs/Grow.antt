@@ -1,4 +1,4 @@
--- The index of a store that grows: empty chains, one context more, and writes to the stack that leave it alone.
+-- The index of a store that grows: empty chains, one context more, and writes to the stack that leave it alone. Nothing here has to be believed.
 use mathlib.Core.Path.{_≡_, refl, sym, ap, _∙_}
 use mathlib.Core.Logic.{_≢_}
 use mathlib.Core.List.{List, [], _∷_}
@@ -7,16 +7,17 @@ use native.Mathlib.Omega.{arith}
 use native.Mathlib.Numerals.{add-one}
 use lib.ListN.{length, getD, set, length-set}
 use lib.Seq.{getD-set-same, getD-set-other}
-use Rattle.stacks.specs.Compare.{two}
+use Rattle.cases.specs.Numbers.{two}
 use Rattle.words.specs.Lent.{clearedRange}
 use Rattle.words.specs.Lent.Laws.{length-clearedRange, clearedRange-inside}
 use Rattle.arena.specs.Store.{Node, Store}
-use Rattle.layout.specs.Layout.{scratchWords, head, link, low, high, stackParent, stackState}
+use Rattle.layout.specs.Layout.{scratchWords}
+use Rattle.layout.specs.Scratch.{head, link, low, high, stackParent, stackState}
 use Rattle.index.specs.Hash.{hash, nodeHash, nodeHash-below, bucketOf, hash-new, hash-old}
 use Rattle.index.specs.Older.{older-all, older-part}
 use Rattle.index.specs.Chain.{newest, newest-here, newest-older}
 use Rattle.index.specs.Index.{Indexed}
-use Rattle.index.specs.Stores.{putEntry, putIndex}
+use Rattle.index.specs.Writes.{putEntry, putIndex}
 
 -- ---- no contexts
 

@@ -1,4 +1,5 @@
 -- The interner's hash of a context. Nothing rests on which hash it is: equal records have equal hashes, and that is all that is used.
+-- Nothing here has to be believed.
 use mathlib.Core.Path.{_≡_, refl}
 use mathlib.Core.Bool.{true, false}
 use mathlib.Core.List.{List, [], _∷_}
@@ -9,7 +10,8 @@ use lib.ListN.{length}
 use borrow.Author.Tests.{eq-eqb, ne-eqb}
 use Rattle.words.specs.Hash.{hashOf, emptyWords, singletonWords, arrayWords}
 use Rattle.words.specs.Hash.Laws.{hashOf-below}
-use Rattle.arena.specs.Store.{Node, end, dollar, push, Store, Rise}
+use Rattle.arena.specs.Store.{Node, end, dollar, push, Store}
+use Rattle.arena.specs.Soundness.{Rise}
 use Rattle.layout.specs.Layout.{stop}
 
 -- the hashes of the entries' parents, given those of contexts by f, and the entries' states; `$` has parent 0

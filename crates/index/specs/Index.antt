@@ -1,11 +1,12 @@
--- The index in the scratch, as a function of the store: heads, links and hashes.
+-- The index in the scratch, as a function of the store: heads, links and hashes. Nothing here has to be believed.
 use mathlib.Core.Path.{_≡_}
 use mathlib.Core.List.{List}
 use Prim.Native.Nat.{ℕ, _<_, _/_, _%_, _^_}
 use lib.ListN.{length}
 use Rattle.arena.specs.Store.{Store}
 use Rattle.layout.specs.Decode.{storeIn}
-use Rattle.layout.specs.Layout.{scratchWords, head, link, low, high}
+use Rattle.layout.specs.Layout.{scratchWords}
+use Rattle.layout.specs.Scratch.{head, link, low, high}
 use Rattle.index.specs.Hash.{hash, nodeHash, bucketOf}
 use Rattle.index.specs.Records.{Records, Stacked, Proper, stackNode}
 use Rattle.index.specs.Older.{older}

@@ -5,7 +5,7 @@ pub mod Chain
 pub mod Index
 pub mod Records
 pub mod Found
-pub mod Stores
+pub mod Writes
 pub mod Walk
 pub mod Same
 pub mod Search

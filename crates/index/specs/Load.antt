@@ -1,14 +1,16 @@
--- Entries copied to the stack one at a time, and what the stack then holds.
+-- Entries copied to the stack one at a time, and what the stack then holds. Nothing here has to be believed.
 use mathlib.Core.Path.{_≡_, refl, sym, ap, _∙_}
 use mathlib.Core.List.{List}
 use Prim.Native.Nat.{ℕ, suc, _<_, _≤_, _+_, _-_}
 use native.Mathlib.Omega.{arith}
 use lib.ListN.{length}
-use Rattle.stacks.specs.Compare.{two}
-use Rattle.layout.specs.Layout.{scratchWords, parent, state, stackParent, stackState}
-use Rattle.layout.specs.Listing.{listing, Entries, listing-agree}
+use Rattle.cases.specs.Numbers.{two}
+use Rattle.layout.specs.Layout.{scratchWords, parent, state}
+use Rattle.layout.specs.Scratch.{stackParent, stackState}
+use Rattle.layout.specs.Listing.{listing}
+use Rattle.layout.specs.Listing.Laws.{Entries, listing-agree}
 use Rattle.index.specs.Records.{Stacked, stackNode}
-use Rattle.index.specs.Stores.{putEntry, Loaded}
+use Rattle.index.specs.Writes.{putEntry, Loaded}
 use Rattle.index.specs.Grow.{entry-length, entry-below, entry-parent, entry-state, other-parent, other-state}
 
 -- nothing is copied yet

@@ -1,4 +1,4 @@
--- The oldest k contexts of a store.
+-- The oldest k contexts of a store. Nothing here has to be believed.
 use mathlib.Core.Path.{_≡_, refl, sym}
 use mathlib.Core.Bool.{true, false}
 use mathlib.Core.List.{[], _∷_}
@@ -7,8 +7,9 @@ use native.Mathlib.Omega.{arith}
 use lib.Dec.{ltb}
 use lib.ListN.{length}
 use borrow.Author.Tests.{lt-ltb, le-ltb}
-use Rattle.stacks.specs.Compare.{two}
-use Rattle.arena.specs.Store.{Node, Store, nodeAt, Sound}
+use Rattle.cases.specs.Numbers.{two}
+use Rattle.arena.specs.Store.{Node, Store, nodeAt}
+use Rattle.arena.specs.Soundness.{Sound}
 use Rattle.arena.specs.Trees.{node-new, node-old}
 
 unfoldable pub older : Store → ℕ → Store

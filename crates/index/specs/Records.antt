@@ -1,11 +1,14 @@
--- What code may rely on: the first c records of a store's words are sound, and so are entries on the stack.
+-- What code may rely on: the first c records of a store's words are sound, and so are entries on the stack. Nothing here has to be believed.
 use mathlib.Core.Path.{_≡_}
 use mathlib.Core.List.{List}
 use Prim.Native.Nat.{ℕ, _<_, _≤_, _+_, _*_, _^_}
 use lib.ListN.{length}
-use Rattle.arena.specs.Store.{Node, Sound}
-use Rattle.layout.specs.Layout.{storeWords, scratchWords, mostContexts, mostEntries, stop, kind, first, second, parent, state, low, high, stackParent, stackState}
-use Rattle.layout.specs.Listing.{listing, Entries}
+use Rattle.arena.specs.Store.{Node}
+use Rattle.arena.specs.Soundness.{Sound}
+use Rattle.layout.specs.Layout.{storeWords, scratchWords, mostContexts, mostEntries, stop, kind, first, second, parent, state}
+use Rattle.layout.specs.Scratch.{low, high, stackParent, stackState}
+use Rattle.layout.specs.Listing.{listing}
+use Rattle.layout.specs.Listing.Laws.{Entries}
 use Rattle.layout.specs.Decode.{storeIn}
 
 -- the first c records

@@ -1,4 +1,4 @@
--- Entries on the stack compared with a record, word by word: they are the same exactly if the words are.
+-- Entries on the stack compared with a record, word by word: they are the same exactly if the words are. Nothing here has to be believed.
 use mathlib.Core.Path.{_≡_, refl, sym, ap, _∙_}
 use mathlib.Core.Bool.{true, false}
 use mathlib.Core.List.{List}
@@ -6,13 +6,16 @@ use Prim.Native.Nat.{ℕ, _<_, _+_}
 use native.Mathlib.Omega.{arith}
 use lib.Dec.{eqb}
 use borrow.Author.Tests.{eq-eqb, ne-eqb}
-use Rattle.stacks.specs.Compare.{two}
+use Rattle.cases.specs.Numbers.{two}
 use Rattle.arena.specs.Store.{Node, end, dollar, push, same}
 use Rattle.arena.specs.Trees.{same?, same-self}
 use Rattle.arena.specs.Kinds.{size}
-use Rattle.layout.specs.Layout.{kind, first, second, parent, state, stackParent, stackState}
-use Rattle.layout.specs.Listing.{listing, Entries, entries-le, listing-agree, listing-inj, listing-size, listing-more}
-use Rattle.layout.specs.Decode.{nodeIn, node-zero, node-one, node-many}
+use Rattle.layout.specs.Layout.{kind, first, second, parent, state}
+use Rattle.layout.specs.Scratch.{stackParent, stackState}
+use Rattle.layout.specs.Listing.{listing}
+use Rattle.layout.specs.Listing.Laws.{Entries, entries-le, listing-agree, listing-inj, listing-size, listing-more}
+use Rattle.layout.specs.Decode.{nodeIn}
+use Rattle.layout.specs.Decode.Laws.{node-zero, node-one, node-many}
 use Rattle.index.specs.Records.{Records, Stacked, Proper, stackNode}
 
 pub same-equal : (a b : Node) → a ≡ b → same a b ≡ true

@@ -1,4 +1,4 @@
--- A lookup in the index: where it starts, and a step of it. Cited by the proof of `find_interned`.
+-- A lookup in the index: where it starts, and a step of it. Cited by the proof of `find_interned`. Nothing here has to be believed.
 use mathlib.Core.Path.{_≡_, refl, sym, ap, _∙_}
 use mathlib.Core.Bool.{true, false}
 use mathlib.Core.List.{List}
@@ -6,8 +6,9 @@ use Prim.Native.Nat.{ℕ, suc, _<_, _≤_, _-_}
 use native.Mathlib.Omega.{arith}
 use lib.ListN.{length, getD}
 use Rattle.arena.specs.Store.{same, find, at, nowhere}
-use Rattle.layout.specs.Layout.{head, link}
-use Rattle.layout.specs.Decode.{nodeIn, storeIn, store-length, store-node}
+use Rattle.layout.specs.Scratch.{head, link}
+use Rattle.layout.specs.Decode.{nodeIn, storeIn}
+use Rattle.layout.specs.Decode.Laws.{store-length, store-node}
 use Rattle.index.specs.Hash.{hash, nodeHash, bucketOf}
 use Rattle.index.specs.Older.{older, older-length}
 use Rattle.index.specs.Chain.{At, newest, newest-le, at-newest, at-hit, at-next, at-pred, at-none}

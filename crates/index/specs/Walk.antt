@@ -1,17 +1,19 @@
--- A walk over the entries of a list: what an entry adds to the words that are hashed, and the hash of a list by its length.
+-- A walk over the entries of a list: what an entry adds to the words that are hashed, and the hash of a list by its length. Nothing here has to be believed.
 use mathlib.Core.Path.{_≡_, refl, sym, ap, _∙_}
 use mathlib.Core.List.{List, _∷_}
 use Prim.Native.Nat.{ℕ, suc, _<_, _≤_, _+_, _-_, _^_}
 use native.Mathlib.Omega.{arith}
 use native.Mathlib.Nat.{div-add-mod'}
 use lib.ListN.{length}
-use Rattle.stacks.specs.Compare.{two}
+use Rattle.cases.specs.Numbers.{two}
 use Rattle.words.specs.Hash.{hashOf, hashFrom, mixed, emptyWords, singletonWords, arrayWords}
 use Rattle.words.specs.Hash.Laws.{hashOf-array}
 use Rattle.arena.specs.Store.{Node, end, dollar, push, Store}
 use Rattle.arena.specs.Kinds.{size}
-use Rattle.layout.specs.Layout.{stop, stackParent, stackState}
-use Rattle.layout.specs.Listing.{listing, Entries, listing-stop, listing-more, stop-last}
+use Rattle.layout.specs.Layout.{stop}
+use Rattle.layout.specs.Scratch.{stackParent, stackState}
+use Rattle.layout.specs.Listing.{listing}
+use Rattle.layout.specs.Listing.Laws.{Entries, listing-stop, listing-more, stop-last}
 use Rattle.index.specs.Hash.{parentWords, stateWords, nodeHash, hash}
 use Rattle.index.specs.Records.{Stacked, stackNode, hashIn}
 use Rattle.index.specs.Index.{Indexed}
@@ -112,7 +114,8 @@ pub array-hash : (f : ℕ → ℕ) (n : Node) (k : ℕ) → size n ≡ k → 2 �
 array-hash f n k e h =
     many f n (omega arith) ∙ hashOf-array (parentWords f n) (stateWords n) ∙ rw (parents-length f n, states-length n, e)
 
-pub single-hash : (f : ℕ → ℕ) (z : List ℕ) (at : ℕ) → (stackState z at ≡ stop → ⊥) → nodeHash f (stackNode z at 1) ≡ hashOf (singletonWords (f (stackParent z at)) (stackState z at))
+pub single-hash : (f : ℕ → ℕ) (z : List ℕ) (at : ℕ) → (stackState z at ≡ stop → ⊥) → nodeHash f (stackNode z at 1) ≡ hashOf
+    (singletonWords (f (stackParent z at)) (stackState z at))
 unfolding nodeHash listing
 single-hash f z at n = rw (listing-more (stackState z) (stackParent z) at 0 n)
 

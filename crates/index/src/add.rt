@@ -1,5 +1,7 @@
 // A context put in front of its bucket's chain.
 use crate::hash::bucket;
+use crate::places::BUCKETS;
+use crate::places::HEADS;
 use crate::places::HIGHS;
 use crate::places::LINKS;
 use crate::places::LOWS;
@@ -7,10 +9,11 @@ ghost use mathlib.Core.Path.{_≡_};
 ghost use Prim.Native.Nat.{_<_};
 ghost use lib.ListN.{length};
 ghost use Rattle.words.specs.Lent.{clearedRange};
-ghost use Rattle.index.specs.Stores.{putIndex};
+ghost use Rattle.index.specs.Writes.{putIndex};
+ghost use Rattle.layout.specs.Layout.{mostContexts, scratchWords};
 
 pub fn add_to_index(scratch: &mut [u32], context: usize, hash: u64)
-    requires { ⌜ (length (now scratch) ≡ 16384) × (context < 512) ⌝ }
+    requires { ⌜ (length (now scratch) ≡ scratchWords) × (context < mostContexts) ⌝ }
     ensures { λ _. ⌜ now (scratch .exit) ≡ putIndex (now (scratch .entry)) context hash ⌝ }
 {
     let chain = bucket(hash);
@@ -23,8 +26,8 @@ pub fn add_to_index(scratch: &mut [u32], context: usize, hash: u64)
 
 // Makes every chain empty.
 pub fn clear_heads(scratch: &mut [u32])
-    requires { ⌜ length (now scratch) ≡ 16384 ⌝ }
+    requires { ⌜ length (now scratch) ≡ scratchWords ⌝ }
     ensures { λ _. ⌜ now (scratch .exit) ≡ clearedRange (now (scratch .entry)) 0 256 ⌝ }
 {
-    words::clear_range(scratch, 0, 256);
+    words::clear_range(scratch, HEADS, BUCKETS);
 }

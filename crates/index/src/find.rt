@@ -1,22 +1,23 @@
 // Lookup of entries on the stack among a store's records. A hash only picks the chain: every
 // candidate is compared field by field.
 use crate::hash::bucket;
-use crate::reads::first_of;
-use crate::reads::kind_of;
 use crate::reads::link_of;
-use crate::reads::pool_parent;
-use crate::reads::pool_state;
-use crate::reads::second_of;
 use crate::reads::stack_parent;
 use crate::reads::stack_state;
+use layout::first_of;
+use layout::kind_of;
+use layout::pool_parent;
+use layout::pool_state;
+use layout::second_of;
 use words::ContextId;
 ghost use mathlib.Core.Path.{_≡_};
 ghost use Prim.Native.Nat.{_+_, _<_, _≤_};
 ghost use lib.ListN.{length};
 ghost use Rattle.arena.specs.Store.{end, find, push, same};
 ghost use Rattle.layout.specs.Decode.{nodeIn, storeIn};
-ghost use Rattle.layout.specs.Layout.{first, parent, second, state};
-ghost use Rattle.layout.specs.Listing.{Entries, listing};
+ghost use Rattle.layout.specs.Layout.{first, parent, second, state, mostContexts, mostEntries, storeWords};
+ghost use Rattle.layout.specs.Listing.Laws.{Entries};
+ghost use Rattle.layout.specs.Listing.{listing};
 ghost use Rattle.index.specs.Found.{foundOf};
 ghost use Rattle.index.specs.Index.{Sought};
 ghost use Rattle.index.specs.Records.{Proper, Records, Stacked, stackNode};
@@ -29,8 +30,8 @@ pub enum Lookup {
 
 // Do n pool entries equal n entries on the stack?
 fn same_entries(store: &[u32], scratch: &[u32], from: usize, at: usize, n: usize) -> bool
-    requires { ⌜ (length (now store) ≡ 5634) × (from + n ≤ 2048) × Entries (state (now store)) (parent (now store)) from n 512 ⌝ }
-    requires { ⌜ Stacked (now scratch) at n 512 ⌝ }
+    requires { ⌜ (length (now store) ≡ storeWords) × (from + n ≤ mostEntries) × Entries (state (now store)) (parent (now store)) from n mostContexts ⌝ }
+    requires { ⌜ Stacked (now scratch) at n mostContexts ⌝ }
     ensures { λ r. ⌜ r ≡ same (stackNode (now (scratch .entry)) at n) (listing (state (now (store .entry))) (parent (now (store .entry))) from n) ⌝ }
 {
     let mut i = 0;
@@ -48,8 +49,8 @@ fn same_entries(store: &[u32], scratch: &[u32], from: usize, at: usize, n: usize
 
 // Is this record a singleton of the one entry on the stack?
 fn same_single(store: &[u32], scratch: &[u32], candidate: usize, at: usize) -> bool
-    requires { ⌜ (length (now store) ≡ 5634) × (candidate < 512) ⌝ }
-    requires { ⌜ Stacked (now scratch) at 1 512 × Proper (now scratch) at 1 ⌝ }
+    requires { ⌜ (length (now store) ≡ storeWords) × (candidate < mostContexts) ⌝ }
+    requires { ⌜ Stacked (now scratch) at 1 mostContexts × Proper (now scratch) at 1 ⌝ }
     ensures { λ r. ⌜ r ≡ same (stackNode (now (scratch .entry)) at 1) (push (second (now (store .entry)) candidate) (first (now (store .entry)) candidate) end) ⌝ }
 {
     if first_of(store, candidate) != stack_parent(scratch, at) {

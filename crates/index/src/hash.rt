@@ -11,6 +11,7 @@ ghost use lib.ListN.{length};
 ghost use Rattle.words.specs.Hash.{hashFrom};
 ghost use Rattle.index.specs.Hash.{bucketOf, nodeHash, parentWords, stateWords};
 ghost use Rattle.index.specs.Records.{Stacked, hashIn, stackNode};
+ghost use Rattle.layout.specs.Layout.{mostContexts, scratchWords};
 
 // The bucket of a hash: its top 8 bits.
 pub fn bucket(hash: u64) -> usize
@@ -21,7 +22,7 @@ pub fn bucket(hash: u64) -> usize
 
 // The hash that the index holds of a context.
 pub fn context_hash(scratch: &[u32], context: usize) -> u64
-    requires { ⌜ (length (now scratch) ≡ 16384) × (context < 512) ⌝ }
+    requires { ⌜ (length (now scratch) ≡ scratchWords) × (context < mostContexts) ⌝ }
     ensures { λ r. ⌜ r ≡ hashIn (now (scratch .entry)) context ⌝ }
 {
     let low = low_of(scratch, context);
@@ -31,7 +32,7 @@ pub fn context_hash(scratch: &[u32], context: usize) -> u64
 
 // The hash after the hashes of the parents of n entries.
 fn mix_parents(scratch: &[u32], at: usize, n: usize, seed: u64) -> u64
-    requires { ⌜ Stacked (now scratch) at n 512 ⌝ }
+    requires { ⌜ Stacked (now scratch) at n mostContexts ⌝ }
     ensures { λ r. ⌜ r ≡ hashFrom seed (parentWords (hashIn (now (scratch .entry))) (stackNode (now (scratch .entry)) at n)) ⌝ }
 {
     let mut hash = seed;
@@ -46,7 +47,7 @@ fn mix_parents(scratch: &[u32], at: usize, n: usize, seed: u64) -> u64
 
 // The hash after the states of n entries.
 fn mix_states(scratch: &[u32], at: usize, n: usize, seed: u64) -> u64
-    requires { ⌜ Stacked (now scratch) at n 512 ⌝ }
+    requires { ⌜ Stacked (now scratch) at n mostContexts ⌝ }
     ensures { λ r. ⌜ r ≡ hashFrom seed (stateWords (stackNode (now (scratch .entry)) at n)) ⌝ }
 {
     let mut hash = seed;
@@ -61,7 +62,7 @@ fn mix_states(scratch: &[u32], at: usize, n: usize, seed: u64) -> u64
 
 // The hash of an array of n entries.
 fn array_hash(scratch: &[u32], at: usize, n: usize) -> u64
-    requires { ⌜ Stacked (now scratch) at n 512 ⌝ }
+    requires { ⌜ Stacked (now scratch) at n mostContexts ⌝ }
     requires { ⌜ 2 ≤ n ⌝ }
     ensures { λ r. ⌜ r ≡ nodeHash (hashIn (now (scratch .entry))) (stackNode (now (scratch .entry)) at n) ⌝ }
 {
@@ -71,7 +72,7 @@ fn array_hash(scratch: &[u32], at: usize, n: usize) -> u64
 
 // The hash of n entries.
 pub fn entries_hash(scratch: &[u32], at: usize, n: usize) -> u64
-    requires { ⌜ Stacked (now scratch) at n 512 ⌝ }
+    requires { ⌜ Stacked (now scratch) at n mostContexts ⌝ }
     requires { ⌜ 1 ≤ n ⌝ }
     ensures { λ r. ⌜ r ≡ nodeHash (hashIn (now (scratch .entry))) (stackNode (now (scratch .entry)) at n) ⌝ }
 {

@@ -1,16 +1,8 @@
-// Where things stand in the store's 5,634 words and in the scratch's 16,384.
-
-pub const STORE_WORDS: usize = 5634;
-
-pub const RECORDS: usize = 2;
-
-pub const PARENTS: usize = 1538;
-
-pub const STATES: usize = 3586;
-
-pub const SCRATCH_WORDS: usize = 16384;
+// Where the index and the entry stack stand in the scratch's 16,384 words.
 
 pub const HEADS: usize = 0;
+
+pub const BUCKETS: usize = 256;
 
 pub const LINKS: usize = 256;
 

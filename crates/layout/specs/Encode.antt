@@ -1,11 +1,11 @@
--- The words of a store: zeros, with one record written after the other, the oldest first.
+-- To believe: the words of a store: zeros, with one record written after the other, the oldest first.
 use mathlib.Core.List.{List, [], _∷_}
-use Prim.Native.Nat.{ℕ, suc, _≤_, _+_, _*_}
+use Prim.Native.Nat.{ℕ, suc, _+_, _*_}
 use lib.ListN.{length, set}
 use Rattle.arena.specs.Store.{Node, end, dollar, push, Store}
 use Rattle.arena.specs.Kinds.{size}
 use Rattle.arena.specs.Room.{room, pool}
-use Rattle.layout.specs.Layout.{storeWords, mostContexts, mostEntries, stop, blank}
+use Rattle.layout.specs.Layout.{storeWords, stop, blank}
 
 -- one pool entry
 unfoldable pub putPool : List ℕ → ℕ → ℕ → ℕ → List ℕ
@@ -40,7 +40,3 @@ written w s n = putCounts (putNode w (length s) (pool s) n) (suc (length s)) (po
 unfoldable pub wordsOf : Store → List ℕ
 wordsOf [] = blank storeWords
 wordsOf (n ∷ s) = written (wordsOf s) s n
-
--- the store is within the ceilings
-abbrev pub Fits : Store → Type 0
-Fits s = (length s ≤ mostContexts) × (pool s ≤ mostEntries)

@@ -1,4 +1,4 @@
--- The 5,634 words of a store and the 16,384 words of the scratch, by name. `w` is a store's words, `z` the scratch's.
+-- To believe: the 5,634 words of a store and the 16,384 words of the scratch, by name. `w` is a store's words, `z` the scratch's.
 use mathlib.Core.List.{List}
 use Prim.Native.Nat.{ℕ, _+_, _*_}
 use lib.ListN.{getD, replicate}
@@ -47,26 +47,3 @@ parent w i = getD w (1538 + i) 0
 
 unfoldable pub state : List ℕ → ℕ → ℕ
 state w i = getD w (3586 + i) 0
-
--- ---- the scratch: index heads, links, hashes in halves; merge cache; entry stack
-
--- number + 1 of the newest context of a bucket
-unfoldable pub head : List ℕ → ℕ → ℕ
-head z b = getD z b 0
-
--- number + 1 of the next older context of the same bucket
-unfoldable pub link : List ℕ → ℕ → ℕ
-link z c = getD z (256 + c) 0
-
-unfoldable pub low : List ℕ → ℕ → ℕ
-low z c = getD z (768 + c) 0
-
-unfoldable pub high : List ℕ → ℕ → ℕ
-high z c = getD z (1280 + c) 0
-
--- the stack's entries, 4,200 of them
-unfoldable pub stackParent : List ℕ → ℕ → ℕ
-stackParent z e = getD z (7936 + 2 * e) 0
-
-unfoldable pub stackState : List ℕ → ℕ → ℕ
-stackState z e = getD z (7936 + 2 * e + 1) 0

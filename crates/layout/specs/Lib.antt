@@ -1,6 +1,8 @@
 -- The words of a store. To believe: Layout, Decode, Sound, Encode.
 pub mod Layout
+pub mod Scratch
 pub mod Listing
 pub mod Decode
 pub mod Sound
 pub mod Encode
+pub mod Ceilings

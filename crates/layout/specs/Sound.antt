@@ -1,4 +1,4 @@
--- Soundness of a store's words, as document 01 lists it, clause by clause and in that order.
+-- To believe: soundness of a store's words, as document 01 lists it, clause by clause and in that order.
 use mathlib.Core.Path.{_≡_}
 use mathlib.Core.Logic.{_⊎_}
 use mathlib.Core.List.{List}

@@ -1,11 +1,11 @@
--- What each case of an answer is, as a reply, and what a query leaves as a whole.
+-- To believe: what each case of an answer is, as a reply, and what a query leaves as a whole.
 use mathlib.Core.Bool.{true, false}
 use Rattle.words.specs.Refusals.{number}
 use Rattle.store.specs.Calls.{Reply, refused, context, count, state, holds, none}
 use Rattle.queries.specs.declared.answers.Counted.{Counted}
 use Rattle.queries.specs.declared.answers.Counted.the-variants.{Count, Refused as notCounted}
-use Rattle.queries.specs.declared.answers.Answered.{Answered}
-use Rattle.queries.specs.declared.answers.Answered.the-variants.{Yes, No, Refused as notAnswered}
+use Rattle.queries.specs.declared.answers.Decided.{Decided}
+use Rattle.queries.specs.declared.answers.Decided.the-variants.{Yes, No, Refused as notDecided}
 use Rattle.queries.specs.declared.answers.StateFound.{StateFound}
 use Rattle.queries.specs.declared.answers.StateFound.the-variants.{State, Nothing as noState, Refused as notState}
 use Rattle.queries.specs.declared.answers.ParentFound.{ParentFound}
@@ -15,10 +15,10 @@ abbrev pub counted : Counted → Reply
 counted (Count n) = count n
 counted (notCounted f) = refused (number f)
 
-abbrev pub answered : Answered → Reply
-answered Yes = holds true
-answered No = holds false
-answered (notAnswered f) = refused (number f)
+abbrev pub decided : Decided → Reply
+decided Yes = holds true
+decided No = holds false
+decided (notDecided f) = refused (number f)
 
 abbrev pub stateFound : StateFound → Reply
 stateFound (State s) = state (s .0)

@@ -1,20 +1,21 @@
 -- Two outcomes of a query that satisfy its contract for the same input are equal: the answers, case and value, and every word.
+-- Nothing here has to be believed.
 use mathlib.Core.Path.{_≡_, refl, ap}
 use mathlib.Core.List.{List, []}
 use Prim.Native.Nat.{ℕ}
 use Rattle.store.specs.Told.{number-tells}
-use Rattle.store.specs.Calls.{Reply, Left, determined}
+use Rattle.store.specs.Calls.{Reply, Left, leaves}
+use Rattle.store.specs.Calls.Laws.{determined}
 use Rattle.queries.specs.declared.answers.Counted.{Counted}
 use Rattle.queries.specs.declared.answers.Counted.the-variants.{Count, Refused as notCounted}
-use Rattle.queries.specs.declared.answers.Answered.{Answered}
-use Rattle.queries.specs.declared.answers.Answered.the-variants.{Yes, No, Refused as notAnswered}
+use Rattle.queries.specs.declared.answers.Decided.{Decided}
+use Rattle.queries.specs.declared.answers.Decided.the-variants.{Yes, No, Refused as notDecided}
 use Rattle.queries.specs.declared.answers.StateFound.{StateFound}
 use Rattle.queries.specs.declared.answers.StateFound.the-variants.{State, Nothing as noState, Refused as notState}
 use Rattle.queries.specs.declared.answers.ParentFound.{ParentFound}
 use Rattle.queries.specs.declared.answers.ParentFound.the-variants.{Parent, Nothing as noParent, Refused as notParent}
 use Rattle.queries.specs.Queries.{lenCall, isEmptyCall, hasEmptyPathCall, returnStateCall, parentCall}
-use Rattle.store.specs.Calls.{left}
-use Rattle.queries.specs.Answers.{counted, answered, stateFound, parentFound}
+use Rattle.queries.specs.Answers.{counted, decided, stateFound, parentFound}
 
 -- ---- a reply tells the answer
 
@@ -24,16 +25,16 @@ counted-tells (Count n) (notCounted g) e = cc
 counted-tells (notCounted f) (Count m) e = cc
 counted-tells (notCounted f) (notCounted g) e = ap notCounted (number-tells f g e)
 
-answered-tells : (a b : Answered) → answered a ≡ answered b → a ≡ b
-answered-tells Yes Yes e = refl
-answered-tells Yes No e = cc
-answered-tells Yes (notAnswered g) e = cc
-answered-tells No Yes e = cc
-answered-tells No No e = refl
-answered-tells No (notAnswered g) e = cc
-answered-tells (notAnswered f) Yes e = cc
-answered-tells (notAnswered f) No e = cc
-answered-tells (notAnswered f) (notAnswered g) e = ap notAnswered (number-tells f g e)
+decided-tells : (a b : Decided) → decided a ≡ decided b → a ≡ b
+decided-tells Yes Yes e = refl
+decided-tells Yes No e = cc
+decided-tells Yes (notDecided g) e = cc
+decided-tells No Yes e = cc
+decided-tells No No e = refl
+decided-tells No (notDecided g) e = cc
+decided-tells (notDecided f) Yes e = cc
+decided-tells (notDecided f) No e = cc
+decided-tells (notDecided f) (notDecided g) e = ap notDecided (number-tells f g e)
 
 state-tells : (a b : StateFound) → stateFound a ≡ stateFound b → a ≡ b
 state-tells (State s) (State t) e =
@@ -63,32 +64,32 @@ parent-tells (notParent f) (notParent g) e = ap notParent (number-tells f g e)
 
 -- ---- the five contracts. A query is lent the store to read, so its words after are those at entry
 
-same-left : (x y : Reply) (w u v : List ℕ) (l : Left) → left x w u ≡ l → left y w v ≡ l → (x ≡ y) × (u ≡ v)
+same-left : (x y : Reply) (w u v : List ℕ) (l : Left) → leaves x w u ≡ l → leaves y w v ≡ l → (x ≡ y) × (u ≡ v)
 same-left x y w u v l p q =
-    let e = determined (left x w u) (left y w v) l p q in
+    let e = determined (leaves x w u) (leaves y w v) l p q in
     (ap (λ (o : Left). o .reply) e, ap (λ (o : Left). o .scratch) e)
 
 module _ (w z : List ℕ) (c : ℕ) (u v : List ℕ) where
-  pub len-determined : (a b : Counted) → left (counted a) w u ≡ lenCall w z c → left (counted b) w v ≡ lenCall w z c → (a ≡ b) × (u ≡ v)
+  pub len-determined : (a b : Counted) → leaves (counted a) w u ≡ lenCall w z c → leaves (counted b) w v ≡ lenCall w z c → (a ≡ b) × (u ≡ v)
   len-determined a b p q = let s = same-left (counted a) (counted b) w u v (lenCall w z c) p q in (counted-tells a b (s .0), s .1)
 
-  pub is-empty-determined : (a b : Answered) → left (answered a) w u ≡ isEmptyCall w z c → left (answered b) w v ≡ isEmptyCall w z c
+  pub is-empty-determined : (a b : Decided) → leaves (decided a) w u ≡ isEmptyCall w z c → leaves (decided b) w v ≡ isEmptyCall w z c
       → (a ≡ b) × (u ≡ v)
   is-empty-determined a b p q =
-      let s = same-left (answered a) (answered b) w u v (isEmptyCall w z c) p q in (answered-tells a b (s .0), s .1)
+      let s = same-left (decided a) (decided b) w u v (isEmptyCall w z c) p q in (decided-tells a b (s .0), s .1)
 
-  pub has-empty-path-determined : (a b : Answered) → left (answered a) w u ≡ hasEmptyPathCall w z c → left (answered b) w v ≡ hasEmptyPathCall w z c
+  pub has-empty-path-determined : (a b : Decided) → leaves (decided a) w u ≡ hasEmptyPathCall w z c → leaves (decided b) w v ≡ hasEmptyPathCall w z c
       → (a ≡ b) × (u ≡ v)
   has-empty-path-determined a b p q =
-      let s = same-left (answered a) (answered b) w u v (hasEmptyPathCall w z c) p q in (answered-tells a b (s .0), s .1)
+      let s = same-left (decided a) (decided b) w u v (hasEmptyPathCall w z c) p q in (decided-tells a b (s .0), s .1)
 
   module _ (i : ℕ) where
-    pub return-state-determined : (a b : StateFound) → left (stateFound a) w u ≡ returnStateCall w z c i → left (stateFound b) w v ≡ returnStateCall w z c i
+    pub return-state-determined : (a b : StateFound) → leaves (stateFound a) w u ≡ returnStateCall w z c i → leaves (stateFound b) w v ≡ returnStateCall w z c i
         → (a ≡ b) × (u ≡ v)
     return-state-determined a b p q =
         let s = same-left (stateFound a) (stateFound b) w u v (returnStateCall w z c i) p q in (state-tells a b (s .0), s .1)
 
-    pub parent-determined : (a b : ParentFound) → left (parentFound a) w u ≡ parentCall w z c i → left (parentFound b) w v ≡ parentCall w z c i
+    pub parent-determined : (a b : ParentFound) → leaves (parentFound a) w u ≡ parentCall w z c i → leaves (parentFound b) w v ≡ parentCall w z c i
         → (a ≡ b) × (u ≡ v)
     parent-determined a b p q =
         let s = same-left (parentFound a) (parentFound b) w u v (parentCall w z c i) p q in (parent-tells a b (s .0), s .1)

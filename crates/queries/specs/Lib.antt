@@ -3,5 +3,5 @@ pub mod Queries
 pub mod Answers
 pub mod Sentences
 pub mod Listed
-pub mod Known
+pub mod EntryWords
 pub mod Determined

@@ -1,4 +1,4 @@
--- The entry at a place of a list of entries, and of one held in words.
+-- The entry at a place of a list of entries, and of one held in words. Nothing here has to be believed.
 use mathlib.Core.Path.{_≡_, refl, ap, _∙_}
 use mathlib.Core.List.{[]}
 use Prim.Native.Nat.{ℕ, zero, suc, _<_, _≤_, _+_}
@@ -7,12 +7,13 @@ use lib.Dec.{eqb}
 use borrow.Author.Tests.{eq-eqb, ne-eqb}
 use Rattle.words.specs.Names.{expanded}
 use Rattle.words.specs.Names.Laws.{expanded-mark, expanded-state}
-use Rattle.stacks.specs.Compare.{two}
+use Rattle.cases.specs.Numbers.{two}
 use Rattle.arena.specs.Store.{Node, end, dollar, push, Store}
 use Rattle.arena.specs.Kinds.{size}
-use Rattle.arena.specs.Identity.{entriesStand}
+use Rattle.arena.specs.Stands.{entriesStand}
 use Rattle.layout.specs.Layout.{stop}
-use Rattle.layout.specs.Listing.{Entries, listing, listing-stop, listing-more, entries-rest, stop-last}
+use Rattle.layout.specs.Listing.Laws.{Entries, listing-stop, listing-more, entries-rest, stop-last}
+use Rattle.layout.specs.Listing.{listing}
 use Rattle.store.specs.Calls.{context, state, none}
 use Rattle.queries.specs.Queries.{stateAt, parentAt}
 

@@ -1,4 +1,4 @@
--- What each query leaves, as a function of what came in: the checks of document 01's table in its order, then what its paragraph "Queries" says.
+-- To believe: what each query leaves, as a function of what came in: the checks of document 01's table in its order, then what its paragraph "Queries" says.
 use mathlib.Core.Bool.{true, false}
 use mathlib.Core.List.{List, []}
 use Prim.Native.Nat.{ℕ, zero, suc}
@@ -9,8 +9,7 @@ use Rattle.stacks.specs.Merge.{isMark}
 use Rattle.arena.specs.Store.{Node, end, dollar, push, Store, tree, nodeAt}
 use Rattle.arena.specs.Kinds.{size}
 use Rattle.layout.specs.Decode.{storeOf}
-use Rattle.store.specs.Calls.{Reply, context, count, state, holds, none, Left}
-use Rattle.store.specs.Asks.{asked}
+use Rattle.store.specs.Calls.{Reply, context, count, state, holds, none, Left, asked}
 
 -- w is the store's words, z the scratch's, c the context's number, i the entry's index
 

@@ -1,4 +1,4 @@
--- Document 01's paragraph "Queries", sentence by sentence, of a sound store: what the definitions of the calls come to.
+-- Document 01's paragraph "Queries", sentence by sentence, of a sound store: what the definitions of the calls come to. Nothing here has to be believed.
 use mathlib.Core.Path.{_≡_, refl, ap, _∙_}
 use mathlib.Core.List.{List}
 use Prim.Native.Nat.{ℕ, zero, suc, _<_, _≤_, _+_}
@@ -8,17 +8,16 @@ use Rattle.words.specs.Names.{emptyMark}
 use Rattle.words.specs.Names.Laws.{expanded-mark}
 use Rattle.arena.specs.Store.{Node, end, dollar, push, nodeAt}
 use Rattle.arena.specs.Kinds.{size}
-use Rattle.layout.specs.Layout.{storeWords, stop, kind, first, second}
-use Rattle.layout.specs.Layout.{state as stateWord}
+use Rattle.layout.specs.Layout.{storeWords, stop, kind, first, second, state as stateWord}
 use Rattle.layout.specs.Decode.{storeOf}
 use Rattle.layout.specs.Sound.{SoundWords}
-use Rattle.stacks.specs.Compare.{two}
+use Rattle.cases.specs.Numbers.{two}
 use Rattle.encoding.specs.Reads.{kind?, kind-zero}
 use Rattle.store.specs.Calls.{context, state, none}
 use Rattle.queries.specs.Queries.{stateAt, parentOf}
 use Rattle.queries.specs.Listed.{state-past}
 use Rattle.store.specs.Asks.{Known}
-use Rattle.queries.specs.Known.{size-many, size-other, many-some, state-many, state-zero, parent-zero, parent-many, parent-at-past}
+use Rattle.queries.specs.EntryWords.{size-many, size-other, many-some, state-many, state-zero, parent-zero, parent-many, parent-at-past}
 
 module _ (w : List ℕ) (l : length w ≡ storeWords) (v : SoundWords w) where
   root : Known w 0

@@ -10,7 +10,7 @@ pub enum Counted {
 }
 
 // Yes or no.
-pub enum Answered {
+pub enum Decided {
     Yes,
     No,
     Refused(Refusal),

@@ -7,8 +7,8 @@ mod paths;
 mod sizes;
 mod states;
 
-pub use answers::Answered;
 pub use answers::Counted;
+pub use answers::Decided;
 pub use answers::ParentFound;
 pub use answers::StateFound;
 pub use empties::is_empty;

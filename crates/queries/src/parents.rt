@@ -6,7 +6,7 @@ use words::ContextId;
 ghost use mathlib.Core.Path.{_≡_};
 ghost use Rattle.layout.specs.Layout.{kind};
 ghost use Rattle.layout.specs.Decode.{storeOf};
-ghost use Rattle.store.specs.Calls.{left};
+ghost use Rattle.store.specs.Calls.{leaves};
 ghost use Rattle.queries.specs.Answers.{parentFound};
 ghost use Rattle.store.specs.Asks.{Known};
 ghost use Rattle.queries.specs.Queries.{parentCall, parentOf};
@@ -16,9 +16,9 @@ fn array_parent(store: &[u32], context: usize, index: u32) -> ParentFound
     requires { ⌜ Known (now store) context × (kind (now store) context ≡ 2) ⌝ }
     ensures { λ r. ⌜ parentFound r ≡ parentOf (storeOf (now (store .entry))) context index ⌝ }
 {
-    if index < index::second_of(store, context) {
-        let from = index::first_of(store, context) as usize;
-        return ParentFound::Parent(ContextId(index::pool_parent(store, from + index as usize)));
+    if index < layout::second_of(store, context) {
+        let from = layout::first_of(store, context) as usize;
+        return ParentFound::Parent(ContextId(layout::pool_parent(store, from + index as usize)));
     }
     ParentFound::Nothing
 }
@@ -28,7 +28,7 @@ fn parent_at(store: &[u32], context: usize, index: u32) -> ParentFound
     requires { ⌜ Known (now store) context ⌝ }
     ensures { λ r. ⌜ parentFound r ≡ parentOf (storeOf (now (store .entry))) context index ⌝ }
 {
-    let kind = index::kind_of(store, context);
+    let kind = layout::kind_of(store, context);
     if kind == 0 {
         return ParentFound::Nothing;
     }
@@ -36,14 +36,14 @@ fn parent_at(store: &[u32], context: usize, index: u32) -> ParentFound
         return array_parent(store, context, index);
     }
     if index == 0 {
-        return ParentFound::Parent(ContextId(index::first_of(store, context)));
+        return ParentFound::Parent(ContextId(layout::first_of(store, context)));
     }
     ParentFound::Nothing
 }
 
 // What is the parent of a context's entry at an index?
 pub fn parent(store: &[u32], scratch: &mut [u32], context: ContextId, index: u32) -> ParentFound
-    ensures { λ r. ⌜ left (parentFound r) (now (store .entry)) (now (scratch .exit))
+    ensures { λ r. ⌜ leaves (parentFound r) (now (store .entry)) (now (scratch .exit))
         ≡ parentCall (now (store .entry)) (now (scratch .entry)) (context .0) index ⌝ }
 {
     let asked = ask(store, scratch, context);

@@ -1,5 +1,5 @@
 // Which contexts have the empty stack in their set.
-use crate::answers::Answered;
+use crate::answers::Decided;
 use store::inner::admit::Admitted;
 use store::inner::ask::ask;
 use words::COMPACT_EMPTY_RETURN_STATE;
@@ -9,8 +9,8 @@ ghost use mathlib.Core.List.{[]};
 ghost use Rattle.stacks.specs.Forest.{mem};
 ghost use Rattle.arena.specs.Store.{tree};
 ghost use Rattle.layout.specs.Decode.{storeOf};
-ghost use Rattle.store.specs.Calls.{left};
-ghost use Rattle.queries.specs.Answers.{answered};
+ghost use Rattle.store.specs.Calls.{leaves};
+ghost use Rattle.queries.specs.Answers.{decided};
 ghost use Rattle.store.specs.Asks.{Known};
 ghost use Rattle.queries.specs.Queries.{hasEmptyPathCall};
 
@@ -19,26 +19,26 @@ fn ends_in_mark(store: &[u32], context: usize) -> bool
     requires { ⌜ Known (now store) context ⌝ }
     ensures { λ r. ⌜ r ≡ mem (tree (storeOf (now (store .entry))) context) [] ⌝ }
 {
-    let kind = index::kind_of(store, context);
+    let kind = layout::kind_of(store, context);
     if kind == 2 {
-        let from = index::first_of(store, context) as usize;
-        let n = index::second_of(store, context) as usize;
-        return index::pool_state(store, from + n - 1) == COMPACT_EMPTY_RETURN_STATE;
+        let from = layout::first_of(store, context) as usize;
+        let n = layout::second_of(store, context) as usize;
+        return layout::pool_state(store, from + n - 1) == COMPACT_EMPTY_RETURN_STATE;
     }
     kind == 0
 }
 
 // Is the empty stack one of a context's?
-pub fn has_empty_path(store: &[u32], scratch: &mut [u32], context: ContextId) -> Answered
-    ensures { λ r. ⌜ left (answered r) (now (store .entry)) (now (scratch .exit))
+pub fn has_empty_path(store: &[u32], scratch: &mut [u32], context: ContextId) -> Decided
+    ensures { λ r. ⌜ leaves (decided r) (now (store .entry)) (now (scratch .exit))
         ≡ hasEmptyPathCall (now (store .entry)) (now (scratch .entry)) (context .0) ⌝ }
 {
     let asked = ask(store, scratch, context);
     if let Admitted::Refused(refusal) = asked {
-        return Answered::Refused(refusal);
+        return Decided::Refused(refusal);
     }
     if ends_in_mark(store, context.0 as usize) {
-        return Answered::Yes;
+        return Decided::Yes;
     }
-    Answered::No
+    Decided::No
 }

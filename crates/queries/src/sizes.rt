@@ -7,7 +7,7 @@ ghost use mathlib.Core.Path.{_≡_};
 ghost use Rattle.arena.specs.Store.{nodeAt};
 ghost use Rattle.arena.specs.Kinds.{size};
 ghost use Rattle.layout.specs.Decode.{storeOf};
-ghost use Rattle.store.specs.Calls.{left};
+ghost use Rattle.store.specs.Calls.{leaves};
 ghost use Rattle.queries.specs.Answers.{counted};
 ghost use Rattle.store.specs.Asks.{Known};
 ghost use Rattle.queries.specs.Queries.{lenCall};
@@ -17,16 +17,16 @@ fn entry_count(store: &[u32], context: usize) -> u32
     requires { ⌜ Known (now store) context ⌝ }
     ensures { λ r. ⌜ r ≡ size (nodeAt (storeOf (now (store .entry))) context) ⌝ }
 {
-    let kind = index::kind_of(store, context);
+    let kind = layout::kind_of(store, context);
     if kind == 2 {
-        return index::second_of(store, context);
+        return layout::second_of(store, context);
     }
     1
 }
 
 // How many entries has a context?
 pub fn len(store: &[u32], scratch: &mut [u32], context: ContextId) -> Counted
-    ensures { λ r. ⌜ left (counted r) (now (store .entry)) (now (scratch .exit))
+    ensures { λ r. ⌜ leaves (counted r) (now (store .entry)) (now (scratch .exit))
         ≡ lenCall (now (store .entry)) (now (scratch .entry)) (context .0) ⌝ }
 {
     let asked = ask(store, scratch, context);

@@ -10,7 +10,7 @@ ghost use mathlib.Core.Path.{_≡_};
 ghost use Rattle.arena.specs.Store.{nodeAt};
 ghost use Rattle.layout.specs.Layout.{kind};
 ghost use Rattle.layout.specs.Decode.{storeOf};
-ghost use Rattle.store.specs.Calls.{left};
+ghost use Rattle.store.specs.Calls.{leaves};
 ghost use Rattle.queries.specs.Answers.{stateFound};
 ghost use Rattle.store.specs.Asks.{Known};
 ghost use Rattle.queries.specs.Queries.{returnStateCall, stateAt};
@@ -20,9 +20,9 @@ fn array_state(store: &[u32], context: usize, index: u32) -> StateFound
     requires { ⌜ Known (now store) context × (kind (now store) context ≡ 2) ⌝ }
     ensures { λ r. ⌜ stateFound r ≡ stateAt (nodeAt (storeOf (now (store .entry))) context) index ⌝ }
 {
-    if index < index::second_of(store, context) {
-        let from = index::first_of(store, context) as usize;
-        let held = index::pool_state(store, from + index as usize);
+    if index < layout::second_of(store, context) {
+        let from = layout::first_of(store, context) as usize;
+        let held = layout::pool_state(store, from + index as usize);
         return StateFound::State(words::expand(CompactState(held)));
     }
     StateFound::Nothing
@@ -33,7 +33,7 @@ fn state_at(store: &[u32], context: usize, index: u32) -> StateFound
     requires { ⌜ Known (now store) context ⌝ }
     ensures { λ r. ⌜ stateFound r ≡ stateAt (nodeAt (storeOf (now (store .entry))) context) index ⌝ }
 {
-    let kind = index::kind_of(store, context);
+    let kind = layout::kind_of(store, context);
     if kind == 2 {
         return array_state(store, context, index);
     }
@@ -41,7 +41,7 @@ fn state_at(store: &[u32], context: usize, index: u32) -> StateFound
         return StateFound::Nothing;
     }
     if kind == 1 {
-        let held = index::second_of(store, context);
+        let held = layout::second_of(store, context);
         return StateFound::State(words::expand(CompactState(held)));
     }
     StateFound::State(ReturnState(EMPTY_RETURN_STATE))
@@ -54,7 +54,7 @@ pub fn return_state(
     context: ContextId,
     index: u32,
 ) -> StateFound
-    ensures { λ r. ⌜ left (stateFound r) (now (store .entry)) (now (scratch .exit))
+    ensures { λ r. ⌜ leaves (stateFound r) (now (store .entry)) (now (scratch .exit))
         ≡ returnStateCall (now (store .entry)) (now (scratch .entry)) (context .0) index ⌝ }
 {
     let asked = ask(store, scratch, context);

@@ -1,18 +1,16 @@
 -- A sample of scripts with their answers: "its length (u32), its bytes, the length of its answer (u32), the answer's bytes; all little-endian,
--- one after the other, to the end of the file". What is counted in it.
+-- one after the other, to the end of the file". What is counted in it. Nothing here has to be believed.
 pub mod Laws
 use mathlib.Core.Path.{_≡_}
 use mathlib.Core.List.{List}
 use Prim.Native.Nat.{ℕ, _+_, _-_, _≤_}
 use lib.ListN.{length, take, drop}
-use Rattle.script.specs.Bytes.{u32At}
+use Rattle.format.specs.Bytes.{u32At}
 use Rattle.script.specs.Steps.{scriptReplies}
 use Rattle.replay.specs.declared.sample.Part.{Part}
-use Rattle.replay.specs.declared.sample.Part.the-variants.{Found}
-use Rattle.replay.specs.declared.sample.Part.the-variants.{Cut as noPart}
+use Rattle.replay.specs.declared.sample.Part.the-variants.{Found, Cut as noPart}
 use Rattle.replay.specs.declared.sample.Tally.{Tally}
-use Rattle.replay.specs.declared.sample.Tally.the-variants.{Whole}
-use Rattle.replay.specs.declared.sample.Tally.the-variants.{Cut as noTally}
+use Rattle.replay.specs.declared.sample.Tally.the-variants.{Whole, Cut as noTally}
 
 -- the bytes from place i up to, not including, place j
 abbrev pub partOf : List ℕ → ℕ → ℕ → List ℕ

@@ -1,5 +1,5 @@
 // A sample: scripts and answers in turn, each with its length in four bytes before it.
-use script::inner::bytes::u32_at;
+use format::inner::bytes::u32_at;
 ghost use Prim.Native.Nat.{_≤_};
 ghost use lib.ListN.{length};
 ghost use Rattle.replay.specs.Sample.{Differs, PartIs, Tallied};

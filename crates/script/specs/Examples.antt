@@ -1,4 +1,5 @@
 -- Document 01's example, as far as its kinds are served: the script's bytes, its records, and all that it prints, computed from the definitions.
+-- Nothing here has to be believed.
 use mathlib.Core.Path.{_≡_, refl}
 use mathlib.Core.Bool.{true, false}
 use mathlib.Core.List.{List, [], _∷_, _++_}
@@ -13,16 +14,33 @@ use Rattle.layout.specs.Listing.{listing}
 use Rattle.layout.specs.Decode.{nodeFrom, nodeIn, storeIn}
 use Rattle.layout.specs.Encode.{putPool, fill, putRecord, putCounts, putNode, written, wordsOf}
 use Rattle.encoding.specs.Decide.{sameWords, rises, hasEntry, isNowhere, soundStore, nodeBelow, storeBelow, fits, goodStore, sound}
-use Rattle.store.specs.Calls.{zeros, ifLengths, ifSound, ifKnown, grown}
-use Rattle.store.specs.Admit.{checked}
-use Rattle.store.specs.Asks.{asked}
-use Rattle.contexts.specs.Calls.{ifState, placedSingle, singletonCall, mergeCall}
-use Rattle.script.specs.Bytes.{u16At, u32At, u64At}
-use Rattle.script.specs.Payloads.{payloads, payloadOf, accepts}
-use Rattle.script.specs.Format.{Record, singleton, merge, show, found, ended, malformed, payloadAt, recordAt, readAt}
-use Rattle.script.specs.Decimal.{digits, decimal}
-use Rattle.script.specs.Lines.{contextLine, refusalLine, entriesBytes, entriesLine, endLine}
-use Rattle.script.specs.Steps.{lineOf, callOf, readingStep, stepOf, repliesFrom, scriptReplies}
+use Rattle.store.specs.Checks.{unless}
+use Rattle.store.specs.Calls.{zeros, refusal, asked}
+use Rattle.interning.specs.SingletonCall.{singleS, singletonChecks, singletonCall}
+use Rattle.contexts.specs.MergeCall.{mergeChecks, mergeCall}
+use Rattle.format.specs.Bytes.{u16At, u32At, u64At}
+use Rattle.format.specs.Payloads.{payloads, payloadOf, accepts}
+use Rattle.format.specs.Format.{Record, singleton, merge, show, found, ended, malformed, payloadAt, recordAt, readAt}
+use Rattle.lines.specs.Decimal.{digits, decimal}
+use Rattle.lines.specs.Lines.{contextLine, refusalLine, entriesBytes, entriesLine, endLine}
+use Rattle.script.specs.Steps.{Lent, fresh, lineOf, callOf, wiped, readingStep, stepOf, runFrom, runOf, scriptReplies}
+
+-- the definitions that the examples compute, by layer, under one name
+unfoldable sets : Unit {0}
+unfolding isMark wild mergeE mergeT same find tree treeOf nodeAt listed intern placeE place mergeS size kindOf pool room
+sets = tt
+
+unfoldable words : Unit {0}
+unfolding blank count used kind first second parent state listing nodeFrom nodeIn storeIn putPool fill putRecord putCounts putNode written wordsOf
+words = tt
+
+unfoldable checks : Unit {0}
+unfolding sameWords rises hasEntry isNowhere soundStore nodeBelow storeBelow fits goodStore sound zeros refusal unless asked
+checks = tt
+
+unfoldable opened : Unit {0}
+unfolding sets words checks singleS singletonChecks singletonCall mergeChecks mergeCall digits decimal contextLine refusalLine entriesBytes entriesLine lineOf callOf
+opened = tt
 
 -- 0C000100 00000000 2A00000000000000 / 09000200 01000000 00000000 00 / 04000700 02000000
 unfoldable pub script : List ℕ
@@ -55,18 +73,18 @@ pub example : scriptReplies script ≡
     ∷ 67 ∷ 32 ∷ 50 ∷ 10
     ∷ 69 ∷ 32 ∷ 50 ∷ 32 ∷ 52 ∷ 50 ∷ 62 ∷ 48 ∷ 32 ∷ 36 ∷ 10
     ∷ 84 ∷ 32 ∷ 51 ∷ 32 ∷ 50 ∷ 10 ∷ []
-unfolding script isMark wild mergeE mergeT same find tree treeOf nodeAt listed intern placeE place mergeS size kindOf pool room blank count used kind first second parent state listing nodeFrom nodeIn storeIn putPool fill putRecord putCounts putNode written wordsOf sameWords rises hasEntry isNowhere soundStore nodeBelow storeBelow fits goodStore sound zeros ifLengths ifSound ifKnown grown checked asked ifState placedSingle singletonCall mergeCall u16At u32At u64At payloads payloadOf accepts payloadAt recordAt readAt digits decimal contextLine refusalLine entriesBytes entriesLine endLine lineOf callOf readingStep stepOf repliesFrom scriptReplies
+unfolding script opened fresh u16At u32At u64At payloads payloadOf accepts payloadAt recordAt readAt endLine wiped readingStep stepOf runFrom runOf scriptReplies
 example = refl
 
 -- ---- document 01's examples P1 to P9, one table
 
 -- what records print, one after the other, over a fresh store
-unfoldable pub saidFrom : List ℕ → List ℕ → List Record → List ℕ
-saidFrom w z [] = []
-saidFrom w z (r ∷ rs) = let p = callOf w z r in p .reply ++ saidFrom (p .store) (p .scratch) rs
+unfoldable pub saidFrom : Lent → List Record → List ℕ
+saidFrom l [] = []
+saidFrom l (r ∷ rs) = let p = callOf l r in p .reply ++ saidFrom (p .words) rs
 
 unfoldable pub said : List Record → List ℕ
-said = saidFrom (wordsOf (dollar ∷ [])) zeros
+said = saidFrom fresh
 
 pub P1-to-P9 :
     -- P1: singleton of 0 and 7, twice: 1 both times
@@ -85,5 +103,5 @@ pub P1-to-P9 :
     × (said (singleton 0 42 ∷ singleton 1 7 ∷ singleton 0 7 ∷ merge 2 3 true ∷ []) ≡ contextLine 1 ++ contextLine 2 ++ contextLine 3 ++ contextLine 3)
     × (said (singleton 0 42 ∷ singleton 1 7 ∷ singleton 0 7 ∷ merge 2 3 false ∷ show 5 ∷ show 4 ∷ [])
     ≡ contextLine 1 ++ contextLine 2 ++ contextLine 3 ++ contextLine 5 ++ entriesLine (push 7 4 end) ++ entriesLine (push 42 0 dollar))
-unfolding said saidFrom isMark wild mergeE mergeT same find tree treeOf nodeAt listed intern placeE place mergeS size kindOf pool room blank count used kind first second parent state listing nodeFrom nodeIn storeIn putPool fill putRecord putCounts putNode written wordsOf sameWords rises hasEntry isNowhere soundStore nodeBelow storeBelow fits goodStore sound zeros ifLengths ifSound ifKnown grown checked asked ifState placedSingle singletonCall mergeCall digits decimal contextLine refusalLine entriesBytes entriesLine lineOf callOf
+unfolding said saidFrom fresh opened
 P1-to-P9 = (refl, refl, refl, refl, refl, refl, refl, refl, refl)

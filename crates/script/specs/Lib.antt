@@ -1,17 +1,10 @@
--- Scripts. To believe: Bytes, Payloads, Format, Decimal, Lines, Laid, Steps, and Answers, which says what each enum stands for.
--- The theorems beside them: `decimal-value`, `decimal-first` of Decimal.Laws; `example` and `P1-to-P9` of Examples; Determined.
-pub mod Bytes
-pub mod Payloads
-pub mod Table
-pub mod Format
-pub mod Decimal
-pub mod Lines
-pub mod Laid
+-- Scripts. To believe: Steps, and Answers, which says what each enum stands for.
+-- Proved beside them: `example` and `P1-to-P9` of Examples; `run-leads` and `leads-determined` of Leads, that a run has steps enough and leads
+-- to one end; `step-determined` and `replays-determined` of Determined.
 pub mod Steps
 pub mod Answers
-pub mod Entries
-pub mod Whole
+pub mod Leads
+pub mod Made
 pub mod Replayed
 pub mod Examples
 pub mod Determined
-pub mod Leads

@@ -1,48 +1,64 @@
--- What a script does, record by record, as functions of its bytes and of the lent words. Assumes nothing: these are definitions.
+-- To believe: what a script does, record by record, as functions of its bytes and of the lent words.
 pub mod Laws
 use mathlib.Core.Bool.{true, false}
 use mathlib.Core.List.{List, [], _∷_, _++_}
 use Prim.Native.Nat.{ℕ, zero, suc}
-use lib.Dec.{ltb}
+use lib.Dec.{eqb, ltb}
 use lib.ListN.{length}
 use Rattle.arena.specs.Store.{dollar, nodeAt}
+use Rattle.layout.specs.Layout.{scratchWords}
 use Rattle.layout.specs.Decode.{storeOf}
 use Rattle.layout.specs.Encode.{wordsOf}
-use Rattle.store.specs.Calls.{Reply, refused, done, shown, context, count, state, holds, none, Left, zeros}
-use Rattle.store.specs.Asks.{asked}
-use Rattle.contexts.specs.Calls.{singletonCall, mergeCall}
-use Rattle.script.specs.Format.{Record, singleton, merge, show, Reading, found, ended, malformed, readAt}
-use Rattle.script.specs.Lines.{contextLine, refusalLine, entriesLine, endLine}
+use Rattle.store.specs.Calls.{Reply, refused, done, shown, context, count, state, holds, none, Left, zeros, asked}
+use Rattle.interning.specs.SingletonCall.{singletonCall}
+use Rattle.contexts.specs.MergeCall.{mergeCall}
+use Rattle.format.specs.Format.{Record, singleton, merge, show, Reading, found, ended, malformed, readAt}
+use Rattle.lines.specs.Lines.{contextLine, refusalLine, entriesLine, endLine}
 
 -- bytes that a script may have
 abbrev pub mostBytes : ℕ
 mostBytes = 32768
 
+-- the words that are lent to a script
+pub record Lent : Type 0 where
+  pub store : List ℕ
+  pub scratch : List ℕ
+
+abbrev pub lent : List ℕ → List ℕ → Lent
+lent w z = record { store = w; scratch = z }
+
+-- the words that it starts from: "over a fresh store"
+unfoldable pub fresh : Lent
+fresh = lent (wordsOf (dollar ∷ [])) zeros
+
+-- ---- a record
+
 -- the line of a reply; `shown` prints the bytes given
 unfoldable pub lineOf : List ℕ → Reply → List ℕ
 lineOf e (refused n) = refusalLine n
-lineOf e done = []
 lineOf e shown = e
 lineOf e (context c) = contextLine c
+lineOf e done = []
 lineOf e (count n) = []
 lineOf e (state r) = []
 lineOf e (holds b) = []
 lineOf e none = []
 
--- the bytes that a call prints, and every word after it
+-- the bytes that were printed, and every lent word after that
 pub record Printed : Type 0 where
   pub reply : List ℕ
-  pub store : List ℕ
-  pub scratch : List ℕ
+  pub words : Lent
 
 abbrev pub printed : List ℕ → Left → Printed
-printed e x = record { reply = lineOf e (x .reply); store = x .store; scratch = x .scratch }
+printed e x = record { reply = lineOf e (x .reply); words = lent (x .store) (x .scratch) }
 
 -- a record's call; `show` reads a known context of a sound store
-unfoldable pub callOf : List ℕ → List ℕ → Record → Printed
-callOf w z (singleton p r) = printed [] (singletonCall w z p r)
-callOf w z (merge a b m) = printed [] (mergeCall w z a b m)
-callOf w z (show c) = printed (entriesLine (nodeAt (storeOf w) c)) (asked w z c shown)
+unfoldable pub callOf : Lent → Record → Printed
+callOf l (singleton p r) = printed [] (singletonCall (l .store) (l .scratch) p r)
+callOf l (merge a b m) = printed [] (mergeCall (l .store) (l .scratch) a b m)
+callOf l (show c) = printed (entriesLine (nodeAt (storeOf (l .store)) c)) (asked (l .store) (l .scratch) c shown)
+
+-- ---- a step
 
 -- where a script goes on: at a place, or nowhere, since it is over
 pub data After : Type 0 where
@@ -53,29 +69,40 @@ pub record Stepped : Type 0 where
   pub after : After
   pub printed : Printed
 
--- nothing is printed, or `R 9`; all words stay
-abbrev pub stays : List ℕ → List ℕ → List ℕ → Stepped
-stays e w z = record { after = over; printed = record { reply = e; store = w; scratch = z } }
+-- the scratch: "all 0 on return"; one of a wrong length stays as it was
+unfoldable pub wiped : List ℕ → List ℕ
+wiped z = elim (eqb (length z) scratchWords) [ true ↦ zeros | false ↦ z ]
 
-unfoldable pub readingStep : List ℕ → List ℕ → Reading → Stepped
-readingStep w z (found r j) = record { after = goes j; printed = callOf w z r }
-readingStep w z ended = stays [] w z
-readingStep w z malformed = stays (refusalLine 9) w z
+-- the script is over: nothing is printed, or `R 9`
+abbrev pub ends : List ℕ → Lent → Stepped
+ends e l = record { after = over; printed = record { reply = e; words = lent (l .store) (wiped (l .scratch)) } }
+
+unfoldable pub readingStep : Lent → Reading → Stepped
+readingStep l (found r j) = record { after = goes j; printed = callOf l r }
+readingStep l ended = ends [] l
+readingStep l malformed = ends (refusalLine 9) l
 
 -- one step of the script s at the place i: "It prints `R 9`, then only the end line; an overlong input does so before any record"
-unfoldable pub stepOf : List ℕ → ℕ → List ℕ → List ℕ → Stepped
-stepOf s i w z = elim (ltb mostBytes (length s)) [ true ↦ stays (refusalLine 9) w z | false ↦ readingStep w z (readAt s i) ]
+unfoldable pub stepOf : List ℕ → ℕ → Lent → Stepped
+stepOf s i l = elim (ltb mostBytes (length s)) [ true ↦ ends (refusalLine 9) l | false ↦ readingStep l (readAt s i) ]
 
 -- ---- a whole script
 
--- the replies from place i on, of k steps at most, and the end line
-unfoldable pub repliesFrom : ℕ → List ℕ → ℕ → List ℕ → List ℕ → List ℕ
-repliesFrom zero s i w z = []
-repliesFrom (suc k) s i w z =
-    let t = stepOf s i w z in
-    t .printed .reply
-    ++ (elim (t .after) [ goes j ↦ repliesFrom k s j (t .printed .store) (t .printed .scratch) | over ↦ endLine (t .printed .store) ])
+-- bytes printed before
+abbrev pub onto : List ℕ → Printed → Printed
+onto xs p = record { reply = xs ++ p .reply; words = p .words }
 
--- "`trace` reads one script .. over a fresh store": all that it prints. A step takes a byte at least, so that there are enough of them
+-- the steps from place i on, k of them at most
+unfoldable pub runFrom : ℕ → List ℕ → ℕ → Lent → Printed
+runFrom zero s i l = record { reply = []; words = l }
+runFrom (suc k) s i l =
+    let t = stepOf s i l in
+    elim (t .after) [ goes j ↦ onto (t .printed .reply) (runFrom k s j (t .printed .words)) | over ↦ t .printed ]
+
+-- "`trace` reads one script .. over a fresh store". A step takes a byte at least, so that there are enough of them
+unfoldable pub runOf : List ℕ → Printed
+runOf s = runFrom (suc (length s)) s 0 fresh
+
+-- all that it prints: its replies, and the end line
 unfoldable pub scriptReplies : List ℕ → List ℕ
-scriptReplies s = repliesFrom (suc (length s)) s 0 (wordsOf (dollar ∷ [])) zeros
+scriptReplies s = runOf s .reply ++ endLine (runOf s .words .store)

@@ -1,13 +1,16 @@
 // A recorded answer held against what a script gives.
-use crate::lines::lay_end;
 use crate::run::Ran;
 use crate::run::run_step;
+use layout::SCRATCH_WORDS;
+use layout::STORE_WORDS;
+use lines::LINE_BYTES;
+use lines::lay_end;
 ghost use mathlib.Core.Path.{_≡_};
 ghost use mathlib.Core.List.{_++_};
 ghost use Prim.Native.Nat.{_≤_};
 ghost use lib.ListN.{drop, length, take};
 ghost use Rattle.store.specs.Check.{Tells};
-ghost use Rattle.script.specs.Lines.{endLine};
+ghost use Rattle.lines.specs.Lines.{endLine};
 ghost use Rattle.script.specs.Steps.{scriptReplies};
 
 // Do the next bytes of the answer, from place `at` on, agree with the first `wrote` of `out`?
@@ -29,7 +32,12 @@ fn agrees(out: &[u8], wrote: usize, answer: &[u8], at: usize) -> bool
 }
 
 // Is the end line all that is left of the answer from place `at` on?
-fn agrees_last(store: &[u32], out: &mut [u8; 40000], answer: &[u8], at: usize) -> bool
+fn agrees_last(
+    store: &[u32; STORE_WORDS],
+    out: &mut [u8; LINE_BYTES],
+    answer: &[u8],
+    at: usize,
+) -> bool
     requires { ⌜ at ≤ length (now answer) ⌝ }
     ensures { λ r. ⌜ Tells (now (answer .entry) ≡ take at (now (answer .entry)) ++ endLine (now (store .entry))) r ⌝ }
 {
@@ -47,9 +55,9 @@ fn agrees_last(store: &[u32], out: &mut [u8; 40000], answer: &[u8], at: usize) -
 fn replays_over(
     script: &[u8],
     answer: &[u8],
-    store: &mut [u32; 5634],
-    scratch: &mut [u32; 16384],
-    out: &mut [u8; 40000],
+    store: &mut [u32; STORE_WORDS],
+    scratch: &mut [u32; SCRATCH_WORDS],
+    out: &mut [u8; LINE_BYTES],
 ) -> bool
     ensures { λ r. ⌜ Tells (now (answer .entry) ≡ scriptReplies (now (script .entry))) r ⌝ }
 {
@@ -81,8 +89,8 @@ fn replays_over(
 pub fn replays(script: &[u8], answer: &[u8]) -> bool
     ensures { λ r. ⌜ Tells (now (answer .entry) ≡ scriptReplies (now (script .entry))) r ⌝ }
 {
-    let mut store = [0u32; 5634];
-    let mut scratch = [0u32; 16384];
-    let mut out = [0u8; 40000];
+    let mut store = [0u32; STORE_WORDS];
+    let mut scratch = [0u32; SCRATCH_WORDS];
+    let mut out = [0u8; LINE_BYTES];
     replays_over(script, answer, &mut store, &mut scratch, &mut out)
 }

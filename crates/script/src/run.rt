@@ -1,19 +1,18 @@
-// One step of a script: a record is read and run, and its reply laid out.
-use crate::entries::lay_entries;
-use crate::lines::lay_number;
-use crate::lines::lay_numbered;
-use crate::records::Record;
-use crate::records::Step;
-use crate::records::decode;
-use store::inner::admit::Admitted;
-use store::inner::ask::ask;
-use words::ContextId;
+// One step of a script: the record at a place is read and run.
+use crate::calls::run_record;
+use format::Step;
+use format::decode;
+use layout::SCRATCH_WORDS;
+use lines::LINE_BYTES;
+use lines::inner::numbers::lay_number;
+use words::Refusal;
 ghost use mathlib.Core.Path.{_≡_};
 ghost use Prim.Native.Nat.{_≤_};
 ghost use lib.ListN.{length};
-ghost use Rattle.script.specs.Answers.{Answered, behind, callIn, laidOut, wroteOf};
-ghost use Rattle.script.specs.Steps.{callOf, stepOf};
-ghost use Rattle.script.specs.Format.{show as showing};
+ghost use Rattle.lines.specs.Laid.{Wrote};
+ghost use Rattle.lines.specs.Lines.{refusalLine};
+ghost use Rattle.script.specs.Answers.{behind, laidOut, wroteOf};
+ghost use Rattle.script.specs.Steps.{lent, stepOf, wiped};
 
 // Bytes that a script may have at most.
 pub const MOST_BYTES: usize = 32768;
@@ -24,34 +23,22 @@ pub enum Ran {
     Over(usize),
 }
 
-// Lays out the entries of a context, or the refusal.
-fn show(store: &[u32], scratch: &mut [u32], context: ContextId, out: &mut [u8]) -> usize
-    requires { ⌜ length (now out) ≡ 40000 ⌝ }
-    ensures { λ r. ⌜ Answered (now (out .entry)) (callOf (now (store .entry)) (now (scratch .entry)) (showing (context .0))) r (now (out .exit)) (now (store .entry)) (now (scratch .exit)) ⌝ }
+// Leaves the scratch as a script that is over does: 0, but one of a wrong length stays.
+fn wipe(scratch: &mut [u32])
+    ensures { λ _. ⌜ now (scratch .exit) ≡ wiped (now (scratch .entry)) ⌝ }
 {
-    let asked = ask(store, scratch, context);
-    if let Admitted::Refused(refusal) = asked {
-        return lay_number(out, b'R', words::refusal_number(refusal));
+    if scratch.len() == SCRATCH_WORDS {
+        words::clear(scratch);
     }
-    lay_entries(out, store, context.0 as usize)
 }
 
-// Runs a record's call and lays out its reply.
-fn run_record(call: Record, store: &mut [u32], scratch: &mut [u32], out: &mut [u8]) -> usize
-    requires { ⌜ length (now out) ≡ 40000 ⌝ }
-    ensures { λ r. ⌜ Answered (now (out .entry)) (callOf (now (store .entry)) (now (scratch .entry)) (callIn call)) r (now (out .exit)) (now (store .exit)) (now (scratch .exit)) ⌝ }
+// Lays out that a record is malformed. Such a script is over.
+fn refuse(scratch: &mut [u32], out: &mut [u8; LINE_BYTES]) -> usize
+    ensures { λ r. ⌜ Wrote (now (out .entry)) 0 (refusalLine 9) r (now (out .exit)) ⌝ }
+    ensures { λ _. ⌜ now (scratch .exit) ≡ wiped (now (scratch .entry)) ⌝ }
 {
-    match call {
-        Record::Singleton(parent, state) => {
-            let answer = contexts::singleton(store, scratch, parent, state);
-            lay_numbered(out, answer)
-        }
-        Record::Merge(left, right, wildcard) => {
-            let answer = contexts::merge(store, scratch, left, right, wildcard);
-            lay_numbered(out, answer)
-        }
-        Record::Show(context) => show(store, scratch, context, out),
-    }
+    wipe(scratch);
+    lay_number(out, b'R', words::refusal_number(Refusal::MalformedRecord))
 }
 
 // Runs the record at a place of a script. The reply stands at the start of `out`.
@@ -60,18 +47,22 @@ pub fn run_step(
     at: usize,
     store: &mut [u32],
     scratch: &mut [u32],
-    out: &mut [u8; 40000],
+    out: &mut [u8; LINE_BYTES],
 ) -> Ran
-    ensures { λ r. ⌜ behind r (now (out .exit)) (now (store .exit)) (now (scratch .exit)) ≡ laidOut (now (out .entry)) (stepOf (now (bytes .entry)) at (now (store .entry)) (now (scratch .entry))) ⌝ }
-    ensures { λ r. ⌜ wroteOf r ≤ 40000 ⌝ }
+    ensures { λ r. ⌜ behind r (now (out .exit)) (lent (now (store .exit)) (now (scratch .exit)))
+        ≡ laidOut (now (out .entry)) (stepOf (now (bytes .entry)) at (lent (now (store .entry)) (now (scratch .entry)))) ⌝ }
+    ensures { λ r. ⌜ wroteOf r ≤ length (now (out .exit)) ⌝ }
 {
     if MOST_BYTES < bytes.len() {
-        return Ran::Over(lay_number(out, b'R', 9));
+        return Ran::Over(refuse(scratch, out));
     }
     let step = decode(bytes, at);
     match step {
         Step::Found(call, next) => Ran::Next(run_record(call, store, scratch, out), next),
-        Step::End => Ran::Over(0),
-        Step::Malformed => Ran::Over(lay_number(out, b'R', 9)),
+        Step::End => {
+            wipe(scratch);
+            Ran::Over(0)
+        }
+        Step::Malformed => Ran::Over(refuse(scratch, out)),
     }
 }

@@ -1,13 +1,15 @@
 -- Laws of the merges, once over the kind: what stands beneath a state, canonical form, commutative, idempotent, associative.
+-- Nothing here has to be believed.
 use mathlib.Core.Path.{_≡_, refl, sym, ap, _∙_}
 use mathlib.Core.Bool.{Bool, true, false, _&&_, _||_, or-false, or-self, or-comm, or-assoc, false≢true}
 use mathlib.Core.List.{[]}
 use Prim.Native.Nat.{ℕ, suc, _<_}
 use native.Mathlib.Omega.{arith}
-use Rattle.stacks.specs.Compare.{three, two}
+use Rattle.cases.specs.Numbers.{three, two}
 use Rattle.stacks.specs.Forest.{Forest, none, mark, over, mem, Some, From, Canon}
 use Rattle.stacks.specs.Beneath.{under, under-here, under-past, from-le, under-low, under-canon, by-parts, by-under}
-use Rattle.stacks.specs.Merge.{isMark, wild, mergeE, mergeT, merge-less, merge-equal, merge-greater, mergeE-none, none-mergeT, mergeT-none, mark-mergeT, mergeT-mark, mergeT-plain}
+use Rattle.stacks.specs.Merge.{isMark, wild, mergeE, mergeT}
+use Rattle.stacks.specs.Merge.Laws.{merge-less, merge-equal, merge-greater, mergeE-none, none-mergeT, mergeT-none, mark-mergeT, mergeT-mark, mergeT-plain}
 
 -- ---- induction along a merge of entries
 

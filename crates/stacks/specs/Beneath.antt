@@ -1,4 +1,5 @@
 -- What stands beneath a top state. Every law of merges is proved by going beneath, and a set in canonical form is known by its stacks.
+-- Nothing here has to be believed.
 use mathlib.Core.Path.{_≡_, refl, sym, _∙_, subst}
 use mathlib.Core.Bool.{true, false, or-false, false≢true}
 use mathlib.Core.List.{List, [], _∷_}
@@ -6,7 +7,7 @@ use Prim.Native.Nat.{ℕ, suc, _<_, _≤_}
 use native.Mathlib.Omega.{arith}
 use lib.Dec.{eqb}
 use borrow.Author.Tests.{eq-eqb, ne-eqb}
-use Rattle.stacks.specs.Compare.{three, two}
+use Rattle.cases.specs.Numbers.{three, two}
 use Rattle.stacks.specs.Forest.{Forest, none, mark, over, mem, Some, From, Canon}
 
 -- the set beneath the top state q; no stacks where q is no top state

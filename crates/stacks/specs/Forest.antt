@@ -1,4 +1,4 @@
--- A finite set of stacks of return states, and its canonical form. A stack is a list, its top first.
+-- To believe: a finite set of stacks of return states, and its canonical form. A stack is a list, its top first.
 use mathlib.Core.Bool.{Bool, true, false, _&&_, _||_}
 use mathlib.Core.List.{List, [], _∷_}
 use Prim.Native.Nat.{ℕ, suc, _≤_}

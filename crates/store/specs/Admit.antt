@@ -1,4 +1,4 @@
--- What a call may rely on once lengths, soundness and a context's number are checked.
+-- What a call may rely on once lengths, soundness and a context's number are checked. Nothing here has to be believed.
 use mathlib.Core.Path.{_≡_, sym, ap, _∙_}
 use mathlib.Core.Bool.{and-false}
 use mathlib.Core.List.{List}
@@ -11,15 +11,12 @@ use Rattle.words.specs.declared.refusals.Refusal.{Refusal}
 use Rattle.words.specs.declared.refusals.Refusal.the-variants.{UnknownContext}
 use Rattle.layout.specs.Layout.{storeWords, scratchWords, blank, count}
 use Rattle.layout.specs.Sound.{SoundWords}
-use Rattle.encoding.specs.Decide.{sound-false, true-sound}
+use Rattle.encoding.specs.Decide.Laws.{sound-false, true-sound}
 use Rattle.store.specs.Check.{Ready}
-use Rattle.store.specs.Calls.{refused, Left, zeros, kept, ifLengths, ifSound, ifKnown}
+use Rattle.store.specs.Calls.{refused, Left, zeros, kept}
+use Rattle.store.specs.Nested.{ifLengths, ifSound, ifKnown, checked}
 use Rattle.store.specs.declared.inner.admit.Admitted.{Admitted}
 use Rattle.store.specs.declared.inner.admit.Admitted.the-variants.{Ready as ready, Refused}
-
--- lengths and soundness
-unfoldable pub checked : List ℕ → List ℕ → Left → Left
-checked w z go = ifLengths w z (ifSound w go)
 
 -- the store is ready, and the call goes on; or it is refused, and this is what it leaves
 abbrev pub Opened : List ℕ → List ℕ → Admitted → List ℕ → Type 0

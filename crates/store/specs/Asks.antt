@@ -1,6 +1,8 @@
 -- What the checks leave to a call that only reads: a known context and a cleared scratch, or the refusal, whatever the reply would have been.
-use mathlib.Core.Path.{_≡_, sym, _∙_}
-use mathlib.Core.List.{List}
+-- Nothing here has to be believed.
+use mathlib.Core.Path.{_≡_, refl, sym, _∙_}
+use mathlib.Core.Logic.{_↔_}
+use mathlib.Core.List.{List, [], _∷_}
 use Prim.Native.Nat.{ℕ, _<_}
 use native.Mathlib.Omega.{arith}
 use lib.ListN.{length, replicate}
@@ -8,14 +10,14 @@ use Rattle.words.specs.declared.refusals.Refusal.{Refusal}
 use Rattle.words.specs.Refusals.{number}
 use Rattle.layout.specs.Layout.{storeWords, count}
 use Rattle.layout.specs.Sound.{SoundWords}
-use Rattle.store.specs.Calls.{Reply, refused, Left, left, zeros, kept, ifKnown}
-use Rattle.store.specs.Admit.{checked, Admits, cleared}
+use Rattle.store.specs.Nested.{asked-nested}
+use Rattle.store.specs.Checks.{Due}
+use Rattle.store.specs.Checks.Laws.{once, absent}
+use Rattle.store.specs.Calls.Laws.{refused-exactly, refused-keeps}
+use Rattle.store.specs.Calls.{Reply, refused, Left, leaves, zeros, kept, wrongLength, unsoundStore, unknownContext, asked, Keeps}
+use Rattle.store.specs.Admit.{Admits, cleared}
 use Rattle.store.specs.declared.inner.admit.Admitted.{Admitted}
 use Rattle.store.specs.declared.inner.admit.Admitted.the-variants.{Ready as ready, Refused}
-
--- w is the store's words, z the scratch's, c the context's number. Checks 2, 1 and 4; then the reply r: the store stays as it was, the scratch is 0
-unfoldable pub asked : List ℕ → List ℕ → ℕ → Reply → Left
-asked w z c r = checked w z (ifKnown w c (kept r w))
 
 -- the words are sound, and c is one of their contexts
 pub record Known (w : List ℕ) (c : ℕ) : Type 0 where
@@ -26,8 +28,8 @@ pub record Known (w : List ℕ) (c : ℕ) : Type 0 where
 -- the words w and z at entry, the context's number c, what the checks answered, the scratch v afterwards
 pub record Asks (w z : List ℕ) (c : ℕ) (a : Admitted) (v : List ℕ) : Type 0 where
   pub known : a ≡ ready → Known w c
-  pub replies : a ≡ ready → (r : Reply) → left r w v ≡ asked w z c r
-  pub refuses : (f : Refusal) → a ≡ Refused f → (r : Reply) → left (refused (number f)) w v ≡ asked w z c r
+  pub replies : a ≡ ready → (r : Reply) → leaves r w v ≡ asked w z c r
+  pub refuses : (f : Refusal) → a ≡ Refused f → (r : Reply) → leaves (refused (number f)) w v ≡ asked w z c r
 
 -- ---- from what `admit` answered; u is the scratch after it
 
@@ -36,21 +38,30 @@ not-both a f e g = let z : _≡_ {A = ℕ} 0 1 = cc in omega arith
 
 module _ (w z : List ℕ) (c : ℕ) (u : List ℕ) (a : Admitted) (s : Admits w z c a u) where
   pub asks-known : a ≡ ready → (v : List ℕ) → v ≡ replicate (length u) 0 → Asks w z c ready v
-  unfolding asked
   asks-known e v f =
       let passed : Admits w z c ready u = rw e at s in
       let zero : v ≡ zeros = f ∙ cleared u (passed .0 .index .sized) in
       record {
         known = λ _. record { sized = passed .0 .sized; sound = passed .0 .sound; below = passed .1 };
-        replies = λ _ r. rw zero (sym (passed .2 (kept r w)));
+        replies = λ _ r. rw zero (sym (asked-nested w z c r ∙ passed .2 (kept r w)));
         refuses = λ f e r. cc;
       }
 
   pub asks-refused : (f : Refusal) → a ≡ Refused f → Asks w z c a u
-  unfolding asked
   asks-refused f e =
       record {
         known = λ g. absurd (not-both a f e g);
         replies = λ g. absurd (not-both a f e g);
-        refuses = λ h g r. sym ((rw g at s) (kept r w));
+        refuses = λ h g r. sym (asked-nested w z c r ∙ (rw g at s) (kept r w));
       }
+
+-- ---- refused exactly when, and with nothing changed
+
+pub asked-refused-exactly : (w z : List ℕ) (c : ℕ) (r : Reply) → ((n : ℕ) → r ≡ refused n → ⊥) → (n : ℕ)
+    → (asked w z c r .reply ≡ refused n) ↔ Due n (wrongLength w z ∷ unsoundStore w ∷ unknownContext w c ∷ [])
+unfolding asked once absent
+asked-refused-exactly w z c r h n = refused-exactly w z (wrongLength w z ∷ unsoundStore w ∷ unknownContext w c ∷ []) (kept r w) h refl n
+
+pub asked-refused-keeps : (w z : List ℕ) (c : ℕ) (r : Reply) → ((n : ℕ) → r ≡ refused n → ⊥) → (n : ℕ) → asked w z c r .reply ≡ refused n → Keeps w z n (asked w z c r)
+unfolding asked
+asked-refused-keeps w z c r h n = refused-keeps w z (wrongLength w z ∷ unsoundStore w ∷ unknownContext w c ∷ []) (kept r w) h n

@@ -1,15 +1,16 @@
--- What a call leaves, as a function of what came in: document 01's table of refusals, in its order of checking.
+-- To believe: what a call leaves, as a function of what came in: document 01's table of refusals, in its order of checking.
+pub mod Laws
 use mathlib.Core.Path.{_≡_}
-use mathlib.Core.Bool.{Bool, true, false, _&&_}
+use mathlib.Core.Bool.{Bool, true, false, not, _&&_}
 use mathlib.Core.List.{List, [], _∷_}
 use Prim.Native.Nat.{ℕ}
 use lib.Dec.{eqb, ltb}
 use lib.ListN.{length}
 use Rattle.arena.specs.Store.{Store, dollar}
-use Rattle.layout.specs.Layout.{storeWords, scratchWords, blank}
-use Rattle.layout.specs.Layout.{count as contexts}
+use Rattle.layout.specs.Layout.{storeWords, scratchWords, blank, count as contexts}
 use Rattle.layout.specs.Encode.{wordsOf}
 use Rattle.encoding.specs.Decide.{sound, fits}
+use Rattle.store.specs.Checks.{Check, given, unless}
 
 -- a reply: a refusal with its number and nothing else, or what was asked for; a context, a state and a count are never one another
 pub data Reply : Type 0 where
@@ -28,8 +29,8 @@ pub record Left : Type 0 where
   pub store : List ℕ
   pub scratch : List ℕ
 
-abbrev pub left : Reply → List ℕ → List ℕ → Left
-left r w z = record { reply = r; store = w; scratch = z }
+abbrev pub leaves : Reply → List ℕ → List ℕ → Left
+leaves r w z = record { reply = r; store = w; scratch = z }
 
 -- the scratch as a call that was not refused 2 leaves it
 unfoldable pub zeros : List ℕ
@@ -37,32 +38,50 @@ zeros = blank scratchWords
 
 -- a reply that changes no word of the store
 abbrev pub kept : Reply → List ℕ → Left
-kept r w = record { reply = r; store = w; scratch = zeros }
+kept r w = leaves r w zeros
 
--- ---- the checks, in order
+-- "Store .. stay as on entry; scratch is 0 (untouched on 2)"
+unfoldable pub refusal : List ℕ → List ℕ → ℕ → Left
+refusal w z n = elim (eqb n 2) [ true ↦ leaves (refused n) w z | false ↦ kept (refused n) w ]
 
--- 2: a lent slice has a wrong length; then all stays as it was, the scratch too
-unfoldable pub ifLengths : List ℕ → List ℕ → Left → Left
-ifLengths w z go = elim (eqb (length w) storeWords && eqb (length z) scratchWords) [ true ↦ go | false ↦ record { reply = refused 2; store = w; scratch = z } ]
+-- ---- the checks, by what document 01's table says of each
 
--- 1: the store is not sound
-unfoldable pub ifSound : List ℕ → Left → Left
-ifSound w go = elim (sound w) [ true ↦ go | false ↦ kept (refused 1) w ]
+-- "a lent slice has a wrong length"
+abbrev pub wrongLength : List ℕ → List ℕ → Check
+wrongLength w z = given 2 (not (eqb (length w) storeWords && eqb (length z) scratchWords))
 
--- 4: a context number is not below the count
-unfoldable pub ifKnown : List ℕ → ℕ → Left → Left
-ifKnown w c go = elim (ltb c (contexts w)) [ true ↦ go | false ↦ kept (refused 4) w ]
+-- "the store is not sound"
+abbrev pub unsoundStore : List ℕ → Check
+unsoundStore w = given 1 (not (sound w))
 
--- 6: the same call in a store without ceilings would end above 512 contexts or 2,048 entries
-unfoldable pub grown : List ℕ → ℕ × Store → Left
-grown w x = elim (fits (x .1)) [ true ↦ record { reply = context (x .0); store = wordsOf (x .1); scratch = zeros } | false ↦ kept (refused 6) w ]
+-- "a context number is not below the count"
+abbrev pub unknownContext : List ℕ → ℕ → Check
+unknownContext w c = given 4 (not (ltb c (contexts w)))
 
--- ---- a fresh store, over any earlier contents
+-- "the same call in a store without ceilings would end above 512 contexts or 2,048 entries"
+abbrev pub noRoom : Store → Check
+noRoom s = given 6 (not (fits s))
 
+-- ---- what a call leaves that is not refused
+
+-- a number, and the words of the store that has it
+abbrev pub made : ℕ × Store → Left
+made x = leaves (context (x .0)) (wordsOf (x .1)) zeros
+
+-- a call that only reads, on the context c: w is the store's words, z the scratch's, r the reply
+unfoldable pub asked : List ℕ → List ℕ → ℕ → Reply → Left
+asked w z c r = unless (wrongLength w z ∷ unsoundStore w ∷ unknownContext w c ∷ []) (refusal w z) (kept r w)
+
+-- a fresh store, over any earlier contents
 unfoldable pub freshCall : List ℕ → Reply × List ℕ
-freshCall w = elim (eqb (length w) storeWords) [ true ↦ (done, wordsOf (dollar ∷ [])) | false ↦ (refused 2, w) ]
+freshCall w = unless (given 2 (not (eqb (length w) storeWords)) ∷ []) (λ n. (refused n, w)) (done, wordsOf (dollar ∷ []))
 
--- ---- two outcomes that satisfy one contract are equal
+-- the reply is a context's number, and these are the words after
+abbrev pub Accepts : Left → ℕ → List ℕ → Type 0
+Accepts x c w′ = (x .reply ≡ context c) × (x .store ≡ w′)
 
-pub determined {ℓ} : {A : Type ℓ} (x y z : A) → x ≡ z → y ≡ z → x ≡ y
-determined x y z p q = cc
+-- a refusal n of words w and z: "Store .. stay as on entry; scratch is 0 (untouched on 2)"
+pub record Keeps (w z : List ℕ) (n : ℕ) (x : Left) : Type 0 where
+  pub store : x .store ≡ w
+  pub untouched : n ≡ 2 → x .scratch ≡ z
+  pub cleared : (n ≡ 2 → ⊥) → x .scratch ≡ zeros

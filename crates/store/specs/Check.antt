@@ -1,4 +1,4 @@
--- What the check of a store says of a record, and what it keeps while it goes from record to record.
+-- What the check of a store says of a record, and what it keeps while it goes from record to record. Nothing here has to be believed.
 use mathlib.Core.Path.{_≡_}
 use mathlib.Core.Bool.{Bool, true, false}
 use mathlib.Core.List.{List, _∷_}
@@ -6,7 +6,7 @@ use Prim.Native.Nat.{ℕ, suc, _<_, _≤_, _+_, _*_}
 use lib.ListN.{length, getD}
 use Rattle.arena.specs.Store.{find, nowhere}
 use Rattle.layout.specs.Layout.{scratchWords, mostEntries, stop, count, kind, first, second, parent, state}
-use Rattle.layout.specs.Listing.{Entries}
+use Rattle.layout.specs.Listing.Laws.{Entries}
 use Rattle.layout.specs.Decode.{nodeIn, storeIn, storeOf}
 use Rattle.layout.specs.Sound.{lengths, SoundWords}
 use Rattle.index.specs.Records.{Records, Stacked, Proper, stackNode}
@@ -90,6 +90,6 @@ pub record Ready (w z : List ℕ) : Type 0 where
   pub index : Indexed (storeOf w) z
 
 -- the verdict on a store
-abbrev pub Verdict : List ℕ → Bool → List ℕ → Type 0
-Verdict w true z = Ready w z
-Verdict w false z = (SoundWords w → ⊥) × (length z ≡ scratchWords)
+abbrev pub StoreJudged : List ℕ → Bool → List ℕ → Type 0
+StoreJudged w true z = Ready w z
+StoreJudged w false z = (SoundWords w → ⊥) × (length z ≡ scratchWords)

@@ -1,17 +1,18 @@
--- Entries on the stack that are looked for among the records before them.
+-- Entries on the stack that are looked for among the records before them. Nothing here has to be believed.
 use mathlib.Core.Path.{_≡_, _∙_}
 use mathlib.Core.List.{List, _∷_}
 use Prim.Native.Nat.{ℕ}
 use native.Mathlib.Omega.{arith}
 use lib.ListN.{length}
 use Rattle.arena.specs.Store.{at}
-use Rattle.layout.specs.Layout.{stackParent, stackState}
-use Rattle.layout.specs.Listing.{entries-le, listing-rise}
-use Rattle.layout.specs.Decode.{storeIn, store-length}
+use Rattle.layout.specs.Scratch.{stackParent, stackState}
+use Rattle.layout.specs.Listing.Laws.{entries-le, listing-rise}
+use Rattle.layout.specs.Decode.{storeIn}
+use Rattle.layout.specs.Decode.Laws.{store-length}
 use Rattle.index.specs.Hash.{hash, nodeHash, nodeHash-agree}
 use Rattle.index.specs.Index.{Indexed, Sought}
 use Rattle.index.specs.Records.{Stacked, stackNode, hashIn}
-use Rattle.index.specs.Stores.{putIndex}
+use Rattle.index.specs.Writes.{putIndex}
 use Rattle.index.specs.Grow.{index-add}
 use Rattle.index.specs.Walk.{hash-held}
 use Rattle.store.specs.Check.{Fresh}

@@ -1,4 +1,4 @@
--- The words of a store of context 0 alone, and of a store that is cut back.
+-- The words of a store of context 0 alone, and of a store that is cut back. Nothing here has to be believed.
 use mathlib.Core.Path.{_≡_, _∙_}
 use mathlib.Core.Logic.{_≢_}
 use mathlib.Core.List.{List, [], _∷_}
@@ -13,6 +13,7 @@ use Rattle.arena.specs.Kinds.{kindOf}
 use Rattle.layout.specs.Layout.{storeWords, blank}
 use Rattle.layout.specs.Encode.{putCounts, putNode, written, wordsOf}
 use Rattle.encoding.specs.Writes.{getD-blank}
+use Rattle.store.specs.Checks.{unless}
 use Rattle.store.specs.Calls.{done, refused, freshCall}
 
 -- word 1 of zeros is 0 already
@@ -26,10 +27,14 @@ fresh-is =
     one-is-zero (set (blank storeWords) 0 1) (getD-set-other (blank storeWords) 0 1 1 0 n ∙ getD-blank storeWords 1 (omega arith))
 
 module _ (w : List ℕ) where
+  pub fresh-goes : length w ≡ storeWords → freshCall w ≡ (done, wordsOf (dollar ∷ []))
+  unfolding freshCall unless
+  fresh-goes l = rw (eq-eqb (length w) storeWords l, freshCall, unless, unless)
+
   pub fresh-words : length w ≡ storeWords → (done, set (replicate (length w) 0) 0 1) ≡ freshCall w
-  unfolding freshCall blank
-  fresh-words l = rw (eq-eqb (length w) storeWords l, freshCall, fresh-is, l)
+  unfolding freshCall unless blank
+  fresh-words l = rw (eq-eqb (length w) storeWords l, freshCall, unless, unless, fresh-is, l)
 
   pub fresh-refused : (length w ≡ storeWords → ⊥) → (refused 2, w) ≡ freshCall w
-  unfolding freshCall
-  fresh-refused n = rw (ne-eqb (length w) storeWords n, freshCall)
+  unfolding freshCall unless
+  fresh-refused n = rw (ne-eqb (length w) storeWords n, freshCall, unless)

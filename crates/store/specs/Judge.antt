@@ -1,20 +1,23 @@
--- From the tests of a record to its judgement, and from record to record.
+-- From the tests of a record to its judgement, and from record to record. Nothing here has to be believed.
 use mathlib.Core.Path.{_≡_, refl, sym, ap, _∙_}
 use mathlib.Core.Bool.{Bool, true, false}
 use mathlib.Core.List.{List, _∷_}
 use Prim.Native.Nat.{ℕ, suc, _<_, _≤_, _+_, _-_, _*_}
 use native.Mathlib.Omega.{arith}
 use lib.ListN.{length}
-use Rattle.stacks.specs.Compare.{two}
-use Rattle.arena.specs.Store.{find, nowhere, Rise, Full}
-use Rattle.layout.specs.Layout.{scratchWords, mostEntries, stop, kind, first, second, parent, state, stackParent, stackState}
-use Rattle.layout.specs.Listing.{Entries, listing-rise, listing-full}
-use Rattle.layout.specs.Decode.{nodeIn, storeIn, store-length, node-one, node-many}
+use Rattle.cases.specs.Numbers.{two}
+use Rattle.arena.specs.Store.{find, nowhere}
+use Rattle.arena.specs.Soundness.{Rise, Full}
+use Rattle.layout.specs.Layout.{scratchWords, mostEntries, stop, kind, first, second, parent, state}
+use Rattle.layout.specs.Scratch.{stackParent, stackState}
+use Rattle.layout.specs.Listing.Laws.{Entries, listing-rise, listing-full}
+use Rattle.layout.specs.Decode.{nodeIn, storeIn}
+use Rattle.layout.specs.Decode.Laws.{store-length, node-one, node-many}
 use Rattle.layout.specs.Sound.{lengths}
 use Rattle.encoding.specs.Reads.{lengths-one, lengths-two}
 use Rattle.index.specs.Records.{Records, Proper, stackNode}
 use Rattle.index.specs.Index.{Indexed}
-use Rattle.index.specs.Stores.{putEntry, Loaded}
+use Rattle.index.specs.Writes.{putEntry, Loaded}
 use Rattle.index.specs.Grow.{index-frame, entry-length, entry-below, entry-parent, entry-state}
 use Rattle.index.specs.Same.{single-node}
 use Rattle.index.specs.Load.{loaded-node, loaded-stacked}

@@ -1,8 +1,10 @@
 pub mod Check
 pub mod Judge
 pub mod Fresh
-pub mod Verdicts
+pub mod Judgements
+pub mod Checks
 pub mod Calls
+pub mod Nested
 pub mod Admit
 pub mod Asks
 pub mod Renewed

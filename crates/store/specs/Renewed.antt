@@ -1,4 +1,4 @@
--- What `fresh` answers, as a reply.
+-- To believe: what `fresh` answers, as a reply.
 use Rattle.words.specs.Refusals.{number}
 use Rattle.store.specs.Calls.{Reply, refused, done}
 use Rattle.store.specs.declared.renew.Renewed.{Renewed}

@@ -1,17 +1,22 @@
--- A reply tells its answer: a refusal's number is no other refusal's.
+-- A reply tells its answer: a refusal's number is no other refusal's. Nothing here has to be believed.
 use mathlib.Core.Path.{_≡_, refl, sym, ap, _∙_}
+use mathlib.Core.Logic.{_↔_}
 use mathlib.Core.Bool.{true}
 use mathlib.Core.List.{List, [], _∷_}
 use Prim.Native.Nat.{ℕ}
-use lib.ListN.{getD}
+use lib.ListN.{length, getD}
 use Rattle.words.specs.declared.refusals.Refusal.{Refusal}
 use Rattle.words.specs.declared.refusals.Refusal.the-variants.{WrongLength, UnsoundStore, UnsoundSet, TooManyStops, ReadOnlySet, UnknownContext, StateOutOfRange, FullSet, FullStore, MalformedRecord}
 use Rattle.words.specs.Refusals.{number}
 use Rattle.arena.specs.Store.{dollar}
 use Rattle.layout.specs.Encode.{wordsOf}
-use Rattle.encoding.specs.Good.{fresh-good}
-use Rattle.encoding.specs.Decide.{sound, words-sound}
-use Rattle.store.specs.Calls.{Reply, refused, freshCall}
+use Rattle.encoding.specs.Good.Laws.{fresh-good}
+use Rattle.encoding.specs.Decide.{sound}
+use Rattle.encoding.specs.Decide.Laws.{words-sound}
+use Rattle.cases.specs.Numbers.{never}
+use Rattle.layout.specs.Layout.{storeWords}
+use Rattle.store.specs.FreshWords.{fresh-words, fresh-refused}
+use Rattle.store.specs.Calls.{Reply, refused, done, freshCall}
 use Rattle.store.specs.Renewed.{renewed}
 use Rattle.store.specs.declared.renew.Renewed.{Renewed}
 use Rattle.store.specs.declared.renew.Renewed.the-variants.{Done, Refused}
@@ -22,23 +27,23 @@ refusals =
     WrongLength ∷ UnsoundStore ∷ WrongLength ∷ UnsoundSet ∷ UnknownContext ∷ StateOutOfRange ∷ FullStore ∷ ReadOnlySet ∷ FullSet
     ∷ MalformedRecord ∷ TooManyStops ∷ []
 
-numbered : (f : Refusal) → getD refusals (number f) WrongLength ≡ f
+by-number : (f : Refusal) → getD refusals (number f) WrongLength ≡ f
 unfolding refusals
-numbered WrongLength = refl
-numbered UnsoundStore = refl
-numbered UnsoundSet = refl
-numbered TooManyStops = refl
-numbered ReadOnlySet = refl
-numbered UnknownContext = refl
-numbered StateOutOfRange = refl
-numbered FullSet = refl
-numbered FullStore = refl
-numbered MalformedRecord = refl
+by-number WrongLength = refl
+by-number UnsoundStore = refl
+by-number UnsoundSet = refl
+by-number TooManyStops = refl
+by-number ReadOnlySet = refl
+by-number UnknownContext = refl
+by-number StateOutOfRange = refl
+by-number FullSet = refl
+by-number FullStore = refl
+by-number MalformedRecord = refl
 
 pub number-tells : (f g : Refusal) → refused (number f) ≡ refused (number g) → f ≡ g
 number-tells f g e =
     let n : number f ≡ number g = cc in
-    sym (numbered f) ∙ ap (λ (k : ℕ). getD refusals k WrongLength) n ∙ numbered g
+    sym (by-number f) ∙ ap (λ (k : ℕ). getD refusals k WrongLength) n ∙ by-number g
 
 -- ---- a fresh store
 
@@ -57,3 +62,16 @@ fresh-determined w a b u v p q =
 -- its words are sound
 pub fresh-sound : sound (wordsOf (dollar ∷ [])) ≡ true
 fresh-sound = words-sound (dollar ∷ []) fresh-good
+
+-- 2 exactly when the length is wrong, and then every word as it was
+pub fresh-refused-exactly : (w : List ℕ) → (freshCall w .0 ≡ refused 2) ↔ (length w ≡ storeWords → ⊥)
+fresh-refused-exactly w = (
+  λ e l. never-both (ap (λ (x : Reply × List ℕ). x .0) (fresh-words w l) ∙ e),
+  λ n. sym (ap (λ (x : Reply × List ℕ). x .0) (fresh-refused w n)),
+)
+  where
+    never-both : done ≡ refused 2 → ⊥
+    never-both e = never (cc)
+
+pub fresh-refused-keeps : (w : List ℕ) → (length w ≡ storeWords → ⊥) → freshCall w .1 ≡ w
+fresh-refused-keeps w n = sym (ap (λ (x : Reply × List ℕ). x .1) (fresh-refused w n))

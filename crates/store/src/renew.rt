@@ -1,4 +1,5 @@
 // A fresh store, written over any earlier contents.
+use layout::STORE_WORDS;
 use words::Refusal;
 ghost use mathlib.Core.Path.{_≡_};
 ghost use Rattle.store.specs.Calls.{freshCall};
@@ -14,7 +15,7 @@ pub enum Renewed {
 pub fn fresh(store: &mut [u32]) -> Renewed
     ensures { λ r. ⌜ (renewed r, now (store .exit)) ≡ freshCall (now (store .entry)) ⌝ }
 {
-    if store.len() != 5634 {
+    if store.len() != STORE_WORDS {
         return Renewed::Refused(Refusal::WrongLength);
     }
     words::clear(store);

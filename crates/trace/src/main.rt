@@ -1,52 +1,80 @@
 // Runs the script on standard input over a fresh store: a line a record, then the end line.
+use layout::SCRATCH_WORDS;
+use layout::STORE_WORDS;
+use libc::STDERR_FILENO;
 use libc::STDIN_FILENO;
 use libc::STDOUT_FILENO;
+use lines::LINE_BYTES;
+use script::MOST_BYTES;
 use script::Ran;
 ghost use Prim.Native.Nat.{_≤_};
 ghost use lib.ListN.{length};
-ghost use Rattle.script.specs.Leads.{Leads};
+ghost use Rattle.script.specs.Steps.{lent};
+ghost use Rattle.trace.specs.Traced.{Traced};
 
-// Writes the reply that stands at the start of `out`.
-fn write_reply(out: &[u8], wrote: usize)
+// Writes the reply that stands at the start of `out`. Where that fails, it says so.
+fn write_reply(out: &[u8], wrote: usize) -> bool
     requires { ⌜ wrote ≤ length (now out) ⌝ }
 {
-    io::write_all(STDOUT_FILENO, &out[..wrote]);
+    if io::write_all(STDOUT_FILENO, &out[..wrote]) {
+        return true;
+    }
+    io::write_all(STDERR_FILENO, b"trace: standard output cannot be written\n");
+    false
 }
 
-// Runs the records one after the other and writes each reply as it comes.
-fn run_script(bytes: &[u8], store: &mut [u32], scratch: &mut [u32], out: &mut [u8; 40000])
-    ensures { λ _. ⌜ Leads (now (bytes .entry)) 0 (now (store .entry)) (now (scratch .entry)) (now (store .exit)) ⌝ }
+// Runs a script from the start: each reply is written as it comes, then the end line. False where a
+// write failed: there it stops.
+fn run_script(
+    bytes: &[u8],
+    store: &mut [u32; STORE_WORDS],
+    scratch: &mut [u32; SCRATCH_WORDS],
+    out: &mut [u8; LINE_BYTES],
+) -> bool
+    ensures { λ r. ⌜ Traced (now (bytes .entry)) r (lent (now (store .exit)) (now (scratch .exit))) ⌝ }
 {
+    store::fresh(store);
+    words::clear(scratch);
     let mut at = 0;
     loop {
         let ran = script::run_step(bytes, at, store, scratch, out);
         match ran {
             Ran::Next(wrote, next) => {
-                write_reply(out, wrote);
+                if !write_reply(out, wrote) {
+                    return false;
+                }
                 at = next;
             }
             Ran::Over(wrote) => {
-                write_reply(out, wrote);
-                return;
+                if !write_reply(out, wrote) {
+                    return false;
+                }
+                let last = lines::lay_end(out, store);
+                return write_reply(out, last);
             }
         }
     }
 }
 
-// Writes the end line.
-fn write_end(store: &[u32], out: &mut [u8; 40000]) {
-    let wrote = script::lay_end(out, store);
-    write_reply(out, wrote);
+// Was all of the input read? `read_full` stops at its end and where a read fails: one more read
+// tells the two apart, and where it fails, says so.
+fn was_read() -> bool {
+    let mut more = [0u8; 1];
+    if libc::read(STDIN_FILENO, &mut more) < 0 {
+        io::write_all(STDERR_FILENO, b"trace: standard input cannot be read\n");
+        return false;
+    }
+    true
 }
 
 // One byte more than a script may have is enough to see that it is overlong.
 fn main() {
-    let mut input = [0u8; script::MOST_BYTES + 1];
-    let mut store = [0u32; 5634];
-    let mut scratch = [0u32; 16384];
-    let mut out = [0u8; 40000];
+    let mut input = [0u8; MOST_BYTES + 1];
+    let mut store = [0u32; STORE_WORDS];
+    let mut scratch = [0u32; SCRATCH_WORDS];
+    let mut out = [0u8; LINE_BYTES];
     let n = io::read_full(STDIN_FILENO, &mut input);
-    store::fresh(&mut store);
-    run_script(&input[..n], &mut store, &mut scratch, &mut out);
-    write_end(&store, &mut out);
+    if was_read() {
+        run_script(&input[..n], &mut store, &mut scratch, &mut out);
+    }
 }

@@ -1,4 +1,4 @@
--- The interner's hash and the words of each kind of context, as document 01 lists them. Assumes nothing: these are definitions.
+-- The interner's hash and the words of each kind of context, as document 01 lists them. No answer depends on it, so nothing here has to be believed.
 pub mod Laws
 use Prim.Native.Nat.{ℕ, _+_, _*_, _/_, _%_, _^_}
 use mathlib.Core.List.{List, [], _∷_, _++_}

@@ -1,4 +1,4 @@
--- Lent words after clearing and copying, and the test for zeros. Assumes nothing: these are definitions.
+-- Lent words after clearing and copying, and the test for areZeros. Nothing here has to be believed.
 pub mod Laws
 use Prim.Native.Nat.{ℕ, _+_, _-_}
 use mathlib.Core.Bool.{Bool, true, _&&_}
@@ -6,7 +6,7 @@ use mathlib.Core.List.{List, [], _∷_, _++_}
 use lib.Dec.{eqb}
 use lib.ListN.{take, drop, replicate}
 
--- the words with zeros from `from` up to, not including, `to`
+-- the words with areZeros from `from` up to, not including, `to`
 unfoldable pub clearedRange : List ℕ → ℕ → ℕ → List ℕ
 clearedRange ws from to = take from ws ++ replicate (to - from) 0 ++ drop to ws
 
@@ -15,10 +15,10 @@ unfoldable pub copiedRange : List ℕ → ℕ → List ℕ → ℕ → ℕ → L
 copiedRange target at source from count = take at target ++ take count (drop from source) ++ drop (at + count) target
 
 -- are all of them 0
-unfoldable pub zeros : List ℕ → Bool
-zeros [] = true
-zeros (w ∷ ws) = eqb w 0 && zeros ws
+unfoldable pub areZeros : List ℕ → Bool
+areZeros [] = true
+areZeros (w ∷ ws) = eqb w 0 && areZeros ws
 
 -- are the words from `from` up to, not including, `to` all 0
 unfoldable pub allZero : List ℕ → ℕ → ℕ → Bool
-allZero ws from to = zeros (take (to - from) (drop from ws))
+allZero ws from to = areZeros (take (to - from) (drop from ws))

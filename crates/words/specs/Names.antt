@@ -1,4 +1,4 @@
--- Return states at the border and as stored. Assumes nothing: these are definitions.
+-- To believe: return states at the border and as stored.
 pub mod Laws
 use Prim.Native.Nat.{ℕ}
 use mathlib.Core.Bool.{true, false}

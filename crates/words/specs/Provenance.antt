@@ -1,4 +1,4 @@
--- The provenance word: its lower 31 bits are the id, bit 31 is the mark. Assumes nothing: these are definitions.
+-- To believe: the provenance word: its lower 31 bits are the id, bit 31 is the mark.
 pub mod Laws
 use Prim.Native.Nat.{ℕ, _+_, _*_, _/_, _%_, _^_, max}
 

@@ -9,7 +9,14 @@ use std::hint::black_box;
 const SCRATCH: usize = 16384;
 const STORE: usize = 5634;
 
-pub fn clear() {
+pub fn time_all() {
+    clear();
+    copy();
+    all_zero();
+    hash();
+}
+
+fn clear() {
     let mut words = vec![7u32; SCRATCH];
     let at = words.as_mut_ptr();
     let best = take_turns(20_000, &mut || unsafe { measure_clear(black_box(at), SCRATCH) }, &mut || unsafe {
@@ -19,7 +26,7 @@ pub fn clear() {
     report("clear 16384 words (goal: at most 1.20)", &best);
 }
 
-pub fn copy() {
+fn copy() {
     let source: Vec<u32> = (0..STORE as u32).collect();
     let mut target = vec![0u32; STORE];
     let (to, from) = (target.as_mut_ptr(), source.as_ptr());
@@ -32,7 +39,7 @@ pub fn copy() {
     report("copy 5634 words", &best);
 }
 
-pub fn all_zero() {
+fn all_zero() {
     let words = vec![0u32; SCRATCH];
     let at = words.as_ptr();
     let best =
@@ -42,7 +49,7 @@ pub fn all_zero() {
     report("all zero, 16384 words", &best);
 }
 
-pub fn hash() {
+fn hash() {
     let words: Vec<u64> = (0..64).map(|i| i * 0x9e37_79b9_7f4a_7c15 % 97).collect();
     let at = words.as_ptr();
     let port = unsafe { measure_hash(at, words.len()) };

@@ -4,7 +4,6 @@ use std::time::Instant;
 const ROUNDS: usize = 25;
 
 /// Nanoseconds a call of the best round, of each side.
-#[cfg(has_archive)]
 pub struct Best {
     pub port: f64,
     pub rust: f64,
@@ -34,14 +33,12 @@ pub fn best_of<const SIDES: usize>(calls: u32, mut sides: [&mut dyn FnMut(); SID
 }
 
 /// The port and its twin, in turn.
-#[cfg(has_archive)]
 pub fn take_turns(calls: u32, port: &mut dyn FnMut(), rust: &mut dyn FnMut()) -> Best {
     let [port, rust] = best_of(calls, [port, rust]);
     Best { port, rust }
 }
 
 /// One line: what was timed, both sides, and their ratio.
-#[cfg(has_archive)]
 pub fn report(what: &str, best: &Best) {
     println!(
         "{what}: port {:.1} ns, rust {:.1} ns, ratio {:.2}",

@@ -31,7 +31,6 @@ impl ContextArena {
 
     /// The context of the merged sets: their union; or, where `root_is_wildcard`, the merge in which context
     /// 0 swallows whatever it meets, at every depth.
-    #[cfg(feature = "merge")]
     pub fn merge(
         &mut self,
         left: ContextId,

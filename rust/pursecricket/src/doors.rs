@@ -36,7 +36,6 @@ unsafe extern "C" {
         state: u64,
     ) -> Answer;
 
-    #[cfg(feature = "merge")]
     pub fn purse_merge(
         store: *mut u32,
         store_len: usize,
@@ -44,7 +43,7 @@ unsafe extern "C" {
         scratch_len: usize,
         left: u32,
         right: u32,
-        wildcard: bool,
+        mode: u32,
     ) -> Answer;
 
     pub fn purse_len(

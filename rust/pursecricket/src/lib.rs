@@ -8,10 +8,19 @@
 //!
 //! let mut arena = ContextArena::new();
 //! let seven = arena.singleton(EMPTY_CONTEXT, ReturnState(7))?;
-//! assert_eq!(arena.singleton(EMPTY_CONTEXT, ReturnState(7))?, seven);
-//! assert_eq!(arena.return_state(seven, 0)?, Some(ReturnState(7)));
-//! assert_eq!(arena.parent(seven, 0)?, Some(EMPTY_CONTEXT));
-//! assert_eq!(arena.return_state(seven, 1)?, None);
+//! let nine = arena.singleton(EMPTY_CONTEXT, ReturnState(9))?;
+//!
+//! // The union of both sets of stacks, whichever side comes first.
+//! let both = arena.merge(seven, nine, false)?;
+//! assert_eq!(arena.merge(nine, seven, false)?, both);
+//! assert_eq!(arena.len(both)?, 2);
+//! assert_eq!(arena.return_state(both, 1)?, Some(ReturnState(9)));
+//! assert_eq!(arena.parent(both, 1)?, Some(EMPTY_CONTEXT));
+//!
+//! // A state that no store can hold is refused, and nothing changes.
+//! let before = arena.words().to_vec();
+//! assert_eq!(arena.singleton(both, ReturnState(4_294_967_295)), Err(Refusal::StateOutOfRange));
+//! assert_eq!(arena.words(), before);
 //! # Ok::<(), Refusal>(())
 //! ```
 #![deny(unsafe_code)]

@@ -5,11 +5,9 @@
 //! hold anything; every call but one that is refused for a length leaves it all 0.
 #![allow(unsafe_code)]
 
-#[cfg(feature = "merge")]
-use crate::doors::purse_merge;
 use crate::doors::{
     Answer, EntryAnswer, EntryQuery, Query, purse_fresh, purse_has_empty_path, purse_is_empty, purse_len,
-    purse_parent, purse_return_state, purse_singleton,
+    purse_merge, purse_parent, purse_return_state, purse_singleton,
 };
 use crate::{ContextId, Refusal, ReturnState};
 
@@ -48,7 +46,6 @@ pub fn singleton(
 
 /// The context of the merged sets: their union; or, where `root_is_wildcard`, the merge in which context 0
 /// swallows whatever it meets, at every depth.
-#[cfg(feature = "merge")]
 pub fn merge(
     store: &mut [u32],
     scratch: &mut [u32],
@@ -65,7 +62,7 @@ pub fn merge(
             scratch.len(),
             left.0,
             right.0,
-            root_is_wildcard,
+            u32::from(root_is_wildcard),
         )
     };
     value(answer).map(ContextId)

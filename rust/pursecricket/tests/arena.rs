@@ -71,7 +71,6 @@ fn refusals_are_errors() {
     }
 }
 
-#[cfg(feature = "merge")]
 mod merges {
     use super::*;
 

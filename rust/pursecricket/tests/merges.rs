@@ -1,5 +1,4 @@
 //! Merges of both kinds: the number and every word, on random stores and at the ceilings.
-#![cfg(feature = "merge")]
 
 mod common;
 

@@ -1,5 +1,4 @@
 //! The runtime's own code beside the crate, over generated scripts: replies, and the words at the end.
-#![cfg(feature = "merge")]
 
 use oracle::generate;
 use oracle::prediction::driver::Machine;

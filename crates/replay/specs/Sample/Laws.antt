@@ -1,4 +1,4 @@
--- A walk through a sample, one script and its answer at a time.
+-- A walk through a sample, one script and its answer at a time. Nothing here has to be believed.
 use mathlib.Core.Path.{_≡_}
 use mathlib.Core.List.{List}
 use Prim.Native.Nat.{ℕ, _+_, _≤_, _<_}

@@ -1,5 +1,7 @@
 // The checks that every call begins with: lengths (2), soundness (1), a known context (4).
 use crate::inner::check::check_store;
+use layout::SCRATCH_WORDS;
+use layout::STORE_WORDS;
 use words::ContextId;
 use words::Refusal;
 ghost use Rattle.store.specs.Admit.{Admits, Opened};
@@ -14,10 +16,10 @@ pub enum Admitted {
 pub fn open_store(store: &[u32], scratch: &mut [u32]) -> Admitted
     ensures { λ r. ⌜ Opened (now (store .entry)) (now (scratch .entry)) r (now (scratch .exit)) ⌝ }
 {
-    if store.len() != 5634 {
+    if store.len() != STORE_WORDS {
         return Admitted::Refused(Refusal::WrongLength);
     }
-    if scratch.len() != 16384 {
+    if scratch.len() != SCRATCH_WORDS {
         return Admitted::Refused(Refusal::WrongLength);
     }
     if check_store(store, scratch) {
@@ -35,7 +37,7 @@ pub fn admit(store: &[u32], scratch: &mut [u32], context: ContextId) -> Admitted
     let Admitted::Ready = opened else {
         return opened;
     };
-    if context.0 < index::count_of(store) {
+    if context.0 < layout::count_of(store) {
         return Admitted::Ready;
     }
     words::clear(scratch);

@@ -1,12 +1,18 @@
 // One pass over a store's words that judges them and builds their index.
 use index::Lookup;
+use layout::MOST_CONTEXTS;
+use layout::MOST_ENTRIES;
+use layout::PARENTS;
+use layout::RECORDS;
+use layout::STATES;
+use layout::STORE_WORDS;
 use words::COMPACT_EMPTY_RETURN_STATE;
 ghost use mathlib.Core.Path.{_≡_};
 ghost use Prim.Native.Nat.{_+_, _<_, _≤_};
 ghost use lib.ListN.{length};
-ghost use Rattle.layout.specs.Layout.{first, kind, parent, state};
-ghost use Rattle.layout.specs.Listing.{Entries};
-ghost use Rattle.store.specs.Check.{Above, AllJudged, EntryAt, FoundNew, Fresh, Judged, Passed, RootJudged, Tells, Unused, Verdict};
+ghost use Rattle.layout.specs.Layout.{first, kind, parent, state, mostContexts, mostEntries, scratchWords, storeWords};
+ghost use Rattle.layout.specs.Listing.Laws.{Entries};
+ghost use Rattle.store.specs.Check.{Above, AllJudged, EntryAt, FoundNew, Fresh, Judged, Passed, RootJudged, Tells, Unused, StoreJudged};
 
 // What a record is: sound, with so many pool entries in use after it, or not sound.
 pub enum Checked {
@@ -16,28 +22,28 @@ pub enum Checked {
 
 // Is a pool entry the first of its list, which starts at `from`, or above the one before it?
 fn rises(store: &[u32], from: usize, place: usize) -> bool
-    requires { ⌜ (length (now store) ≡ 5634) × (place < 2048) ⌝ }
+    requires { ⌜ (length (now store) ≡ storeWords) × (place < mostEntries) ⌝ }
     ensures { λ r. ⌜ Tells (Above (state (now (store .entry))) from place) r ⌝ }
 {
     if place <= from {
         return true;
     }
-    index::pool_state(store, place - 1) < index::pool_state(store, place)
+    layout::pool_state(store, place - 1) < layout::pool_state(store, place)
 }
 
 // Is a pool entry, in a list that starts at `from`, sound below a context?
 fn entry_sound(store: &[u32], from: usize, place: usize, context: usize) -> bool
-    requires { ⌜ (length (now store) ≡ 5634) × (place < 2048) ⌝ }
+    requires { ⌜ (length (now store) ≡ storeWords) × (place < mostEntries) ⌝ }
     ensures { λ r. ⌜ Tells (EntryAt (state (now (store .entry))) (parent (now (store .entry))) from place context) r ⌝ }
 {
-    let parent = index::pool_parent(store, place);
+    let parent = layout::pool_parent(store, place);
     if context <= parent as usize {
         return false;
     }
     if !rises(store, from, place) {
         return false;
     }
-    if index::pool_state(store, place) == COMPACT_EMPTY_RETURN_STATE {
+    if layout::pool_state(store, place) == COMPACT_EMPTY_RETURN_STATE {
         return parent == 0;
     }
     true
@@ -45,7 +51,7 @@ fn entry_sound(store: &[u32], from: usize, place: usize, context: usize) -> bool
 
 // Are n pool entries sound below a context?
 fn entries_sound(store: &[u32], from: usize, n: usize, context: usize) -> bool
-    requires { ⌜ (length (now store) ≡ 5634) × (from + n ≤ 2048) ⌝ }
+    requires { ⌜ (length (now store) ≡ storeWords) × (from + n ≤ mostEntries) ⌝ }
     ensures { λ r. ⌜ Tells (Entries (state (now (store .entry))) (parent (now (store .entry))) from n context) r ⌝ }
 {
     let mut i = 0;
@@ -74,11 +80,11 @@ fn check_new(store: &[u32], scratch: &mut [u32], context: usize, n: usize) -> bo
 
 // Judges a record of kind 1.
 fn check_single(store: &[u32], scratch: &mut [u32], context: usize, pool: usize) -> Checked
-    requires { ⌜ Passed (now store) (now scratch) context pool × (context < 512) × (kind (now store) context ≡ 1) ⌝ }
+    requires { ⌜ Passed (now store) (now scratch) context pool × (context < mostContexts) × (kind (now store) context ≡ 1) ⌝ }
     ensures { λ r. ⌜ Judged (now (store .entry)) context r (now (scratch .exit)) ⌝ }
 {
-    let parent = index::first_of(store, context);
-    let state = index::second_of(store, context);
+    let parent = layout::first_of(store, context);
+    let state = layout::second_of(store, context);
     if context <= parent as usize {
         return Checked::Bad;
     }
@@ -94,18 +100,18 @@ fn check_single(store: &[u32], scratch: &mut [u32], context: usize, pool: usize)
 
 // Judges a record of kind 2, whose entries start where those before it end.
 fn check_array(store: &[u32], scratch: &mut [u32], context: usize, pool: usize) -> Checked
-    requires { ⌜ Passed (now store) (now scratch) context pool × (context < 512) × (kind (now store) context ≡ 2) ⌝ }
+    requires { ⌜ Passed (now store) (now scratch) context pool × (context < mostContexts) × (kind (now store) context ≡ 2) ⌝ }
     ensures { λ r. ⌜ Judged (now (store .entry)) context r (now (scratch .exit)) ⌝ }
 {
-    let from = index::first_of(store, context) as usize;
-    let n = index::second_of(store, context) as usize;
+    let from = layout::first_of(store, context) as usize;
+    let n = layout::second_of(store, context) as usize;
     if from != pool {
         return Checked::Bad;
     }
     if n < 2 {
         return Checked::Bad;
     }
-    if 2048 - pool < n {
+    if MOST_ENTRIES - pool < n {
         return Checked::Bad;
     }
     if !entries_sound(store, from, n, context) {
@@ -120,10 +126,10 @@ fn check_array(store: &[u32], scratch: &mut [u32], context: usize, pool: usize) 
 
 // Judges a record that is not the first.
 fn check_record(store: &[u32], scratch: &mut [u32], context: usize, pool: usize) -> Checked
-    requires { ⌜ Passed (now store) (now scratch) context pool × (context < 512) ⌝ }
+    requires { ⌜ Passed (now store) (now scratch) context pool × (context < mostContexts) ⌝ }
     ensures { λ r. ⌜ Judged (now (store .entry)) context r (now (scratch .exit)) ⌝ }
 {
-    let kind = index::kind_of(store, context);
+    let kind = layout::kind_of(store, context);
     if kind == 1 {
         return check_single(store, scratch, context, pool);
     }
@@ -135,7 +141,7 @@ fn check_record(store: &[u32], scratch: &mut [u32], context: usize, pool: usize)
 
 // Judges the records after the first.
 fn check_records(store: &[u32], scratch: &mut [u32], count: usize) -> Checked
-    requires { ⌜ Passed (now store) (now scratch) 1 0 × (1 ≤ count) × (count ≤ 512) ⌝ }
+    requires { ⌜ Passed (now store) (now scratch) 1 0 × (1 ≤ count) × (count ≤ mostContexts) ⌝ }
     ensures { λ r. ⌜ AllJudged (now (store .entry)) count r (now (scratch .exit)) ⌝ }
 {
     let mut pool = 0;
@@ -153,16 +159,16 @@ fn check_records(store: &[u32], scratch: &mut [u32], count: usize) -> Checked
 
 // Is record 0 the empty context? Then it is the first in the index.
 fn check_root(store: &[u32], scratch: &mut [u32]) -> bool
-    requires { ⌜ (length (now store) ≡ 5634) × (length (now scratch) ≡ 16384) ⌝ }
+    requires { ⌜ (length (now store) ≡ storeWords) × (length (now scratch) ≡ scratchWords) ⌝ }
     ensures { λ r. ⌜ RootJudged (now (store .entry)) r (now (scratch .exit)) ⌝ }
 {
-    if index::kind_of(store, 0) != 0 {
+    if layout::kind_of(store, 0) != 0 {
         return false;
     }
-    if index::first_of(store, 0) != 0 {
+    if layout::first_of(store, 0) != 0 {
         return false;
     }
-    if index::second_of(store, 0) != 0 {
+    if layout::second_of(store, 0) != 0 {
         return false;
     }
     index::clear_heads(scratch);
@@ -172,32 +178,32 @@ fn check_root(store: &[u32], scratch: &mut [u32]) -> bool
 
 // Are all words past the records and the pool entries in use 0?
 fn unused_zero(store: &[u32], count: usize, used: usize) -> bool
-    requires { ⌜ (length (now store) ≡ 5634) × (count ≤ 512) × (used ≤ 2048) ⌝ }
+    requires { ⌜ (length (now store) ≡ storeWords) × (count ≤ mostContexts) × (used ≤ mostEntries) ⌝ }
     ensures { λ r. ⌜ Tells (Unused (now (store .entry)) count used) r ⌝ }
 {
-    if !words::all_zero(store, 2 + 3 * count, 1538) {
+    if !words::all_zero(store, RECORDS + 3 * count, PARENTS) {
         return false;
     }
-    if !words::all_zero(store, 1538 + used, 3586) {
+    if !words::all_zero(store, PARENTS + used, STATES) {
         return false;
     }
-    words::all_zero(store, 3586 + used, 5634)
+    words::all_zero(store, STATES + used, STORE_WORDS)
 }
 
 // Is the store sound? Then its index stands in the scratch.
 pub fn check_store(store: &[u32], scratch: &mut [u32]) -> bool
-    requires { ⌜ (length (now store) ≡ 5634) × (length (now scratch) ≡ 16384) ⌝ }
-    ensures { λ r. ⌜ Verdict (now (store .entry)) r (now (scratch .exit)) ⌝ }
+    requires { ⌜ (length (now store) ≡ storeWords) × (length (now scratch) ≡ scratchWords) ⌝ }
+    ensures { λ r. ⌜ StoreJudged (now (store .entry)) r (now (scratch .exit)) ⌝ }
 {
-    let count = index::count_of(store) as usize;
-    let used = index::used_of(store) as usize;
+    let count = layout::count_of(store) as usize;
+    let used = layout::used_of(store) as usize;
     if count < 1 {
         return false;
     }
-    if 512 < count {
+    if MOST_CONTEXTS < count {
         return false;
     }
-    if 2048 < used {
+    if MOST_ENTRIES < used {
         return false;
     }
     if !check_root(store, scratch) {

@@ -15,4 +15,4 @@ write-reply-spec =
     tie.close
     (tie.spec
     slice-aggregate-write-all
-    (λ c κs. search needs) (λ c. search needs))
+    (λ c κs. search needs) (λ c. search needs) (λ c. search needs) (λ c κs. search needs) (λ c. search needs))

@@ -1,4 +1,4 @@
--- Laws by which a caller hashes a list piece by piece, by induction on the list. Assumes nothing.
+-- Laws by which a caller hashes a list piece by piece, by induction on the list. Nothing here has to be believed.
 use mathlib.Core.Path.{_≡_, refl, ap, _∙_}
 use mathlib.Core.List.{List, [], _∷_, _++_}
 use Prim.Native.Nat.{ℕ, _+_, _*_, _^_, _<_}

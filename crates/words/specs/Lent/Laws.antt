@@ -1,7 +1,7 @@
--- Laws of cleared and copied words and of the test for zeros. Cleared words are the library's `paste` of zeros and copied words its `paste` of the source,
--- so each law of length and elements is stated of `paste` once. Assumes nothing.
+-- Laws of cleared and copied words and of the test for areZeros. Cleared words are the library's `paste` of areZeros and copied words its `paste` of the source,
+-- so each law of length and elements is stated of `paste` once. Nothing here has to be believed.
 use mathlib.Core.Path.{_≡_, refl, sym, ap, _∙_}
-use mathlib.Core.Bool.{Bool, true, false, _&&_, and-true, and-assoc}
+use mathlib.Core.Bool.{Bool, true, _&&_, and-true, and-assoc}
 use mathlib.Core.List.{List, [], _∷_, _++_, append-nil}
 use Prim.Native.Nat.{ℕ, zero, suc, _+_, _-_, _≤_, _<_}
 use native.Mathlib.Decide.{decLe}
@@ -12,7 +12,8 @@ use borrow.Author.Tests.{eqb-true, eq-eqb}
 use lib.Dec.{eqb}
 use lib.ListN.{length, getD, take, drop, set, replicate, length-drop, length-take, length-replicate, getD-replicate, drop-of-length-le, List·getD-append}
 use lib.Seq.{paste, paste-zero, paste-suc, length-paste, length-paste-head, length-take-le, getD-append-add, getD-take, getD-drop, take-suc, ext-getD}
-use Rattle.words.specs.Lent.{allZero, clearedRange, copiedRange, zeros}
+use Rattle.words.specs.Lent.{allZero, clearedRange, copiedRange, areZeros}
+use Rattle.cases.specs.Bools.{and-both}
 
 -- ---- the elements of a `paste`
 
@@ -156,45 +157,41 @@ copiedRange-more target at source from i h k =
     ∙ paste-suc target at rest i 0 h (omega (arith, length-drop from source))
     ∙ ap (paste target at rest) (sym (add-one i))
 
--- ---- zeros
+-- ---- areZeros
 
-zeros-append : (xs ys : List ℕ) → zeros (xs ++ ys) ≡ (zeros xs && zeros ys)
-unfolding zeros
+zeros-append : (xs ys : List ℕ) → areZeros (xs ++ ys) ≡ (areZeros xs && areZeros ys)
+unfolding areZeros
 zeros-append [] ys = refl
-zeros-append (x ∷ xs) ys = ap (λ (b : Bool). eqb x 0 && b) (zeros-append xs ys) ∙ sym (and-assoc (eqb x 0) (zeros xs) (zeros ys))
+zeros-append (x ∷ xs) ys = ap (λ (b : Bool). eqb x 0 && b) (zeros-append xs ys) ∙ sym (and-assoc (eqb x 0) (areZeros xs) (areZeros ys))
 
-both : (a b : Bool) → (a && b) ≡ true → (a ≡ true) × (b ≡ true)
-both true b e = (refl, e)
-both false b e = (e, cc)
-
-zeros-at : (ws : List ℕ) → zeros ws ≡ true → (j : ℕ) → getD ws j 0 ≡ 0
-unfolding zeros
+zeros-at : (ws : List ℕ) → areZeros ws ≡ true → (j : ℕ) → getD ws j 0 ≡ 0
+unfolding areZeros
 zeros-at [] e j = refl
-zeros-at (w ∷ ws) e zero = eqb-true w 0 (both (eqb w 0) (zeros ws) e .0)
-zeros-at (w ∷ ws) e (suc j) = zeros-at ws (both (eqb w 0) (zeros ws) e .1) j
+zeros-at (w ∷ ws) e zero = eqb-true w 0 (and-both (eqb w 0) (areZeros ws) e .0)
+zeros-at (w ∷ ws) e (suc j) = zeros-at ws (and-both (eqb w 0) (areZeros ws) e .1) j
 
-zeros-of : (ws : List ℕ) → ((j : ℕ) → j < length ws → getD ws j 0 ≡ 0) → zeros ws ≡ true
-unfolding zeros
+zeros-of : (ws : List ℕ) → ((j : ℕ) → j < length ws → getD ws j 0 ≡ 0) → areZeros ws ≡ true
+unfolding areZeros
 zeros-of [] f = refl
-zeros-of (w ∷ ws) f = ap (λ (b : Bool). b && zeros ws) (eq-eqb w 0 (f 0 (omega arith))) ∙ zeros-of ws (λ j h. f (suc j) (omega arith))
+zeros-of (w ∷ ws) f = ap (λ (b : Bool). b && areZeros ws) (eq-eqb w 0 (f 0 (omega arith))) ∙ zeros-of ws (λ j h. f (suc j) (omega arith))
 
 pub allZero-none : (ws : List ℕ) (from : ℕ) → allZero ws from from ≡ true
-unfolding allZero zeros
+unfolding allZero areZeros
 allZero-none ws from = let e : from - from ≡ 0 = omega arith in rw e
 
 -- one word more
 pub allZero-more : (ws : List ℕ) (from i : ℕ) → from ≤ i → i < length ws → allZero ws from (i + 1) ≡ (allZero ws from i && eqb (getD ws i 0) 0)
-unfolding allZero zeros
+unfolding allZero areZeros
 allZero-more ws from i h k =
     let rest : List ℕ = drop from ws in
     let j : ℕ = i - from in
     let next : i + 1 - from ≡ suc j = omega arith in
     let at : from + j ≡ i = omega arith in
-    ap (λ (m : ℕ). zeros (take m rest)) next
-    ∙ ap zeros (take-suc rest j 0 (omega (arith, length-drop from ws)))
+    ap (λ (m : ℕ). areZeros (take m rest)) next
+    ∙ ap areZeros (take-suc rest j 0 (omega (arith, length-drop from ws)))
     ∙ zeros-append (take j rest) (getD rest j 0 ∷ [])
-    ∙ ap (λ (b : Bool). zeros (take j rest) && b) (and-true (eqb (getD rest j 0) 0))
-    ∙ ap (λ (w : ℕ). zeros (take j rest) && eqb w 0) (getD-drop from ws j 0 ∙ ap (λ (m : ℕ). getD ws m 0) at)
+    ∙ ap (λ (b : Bool). areZeros (take j rest) && b) (and-true (eqb (getD rest j 0) 0))
+    ∙ ap (λ (w : ℕ). areZeros (take j rest) && eqb w 0) (getD-drop from ws j 0 ∙ ap (λ (m : ℕ). getD ws m 0) at)
 
 pub allZero-at : (ws : List ℕ) (from to : ℕ) → allZero ws from to ≡ true → (j : ℕ) → from ≤ j → j < to → getD ws j 0 ≡ 0
 unfolding allZero

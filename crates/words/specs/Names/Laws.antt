@@ -1,4 +1,4 @@
--- The three answers of `compacted` and the two of `expanded`, each from the range that gives it and back. Assumes nothing.
+-- The three answers of `compacted` and the two of `expanded`, each from the range that gives it and back. Nothing here has to be believed.
 use mathlib.Core.Path.{_≡_}
 use Prim.Native.Nat.{ℕ, _<_, _≤_}
 use native.Mathlib.Decide.{decLe, ℕ-discrete}
@@ -8,6 +8,7 @@ use borrow.Author.Tests.{eq-eqb, ne-eqb, lt-ltb, le-ltb}
 use Rattle.words.specs.declared.names.CompactState.{CompactState}
 use Rattle.words.specs.declared.names.Compacted.the-variants.{Mark, State, OutOfRange}
 use Rattle.words.specs.Names.{compacted, compactMark, emptyMark, expanded}
+use Rattle.cases.specs.Numbers.{never}
 
 pub compacted-mark : (r : ℕ) → r ≡ emptyMark → compacted r ≡ Mark
 unfolding compacted
@@ -35,10 +36,6 @@ compacted-cases r f g h =
         | no m ↦ g (lt-of-not-le m) (compacted-state r (lt-of-not-le m))
       ]
     ]
-
--- two answers that differ
-never {ℓ} : {X : Type ℓ} → _≡_ {A = ℕ} 0 1 → X
-never e = absurd (omega arith)
 
 pub state-of-compacted : (r : ℕ) (s : CompactState) → compacted r ≡ State s → (s .0 ≡ r) × (r < compactMark)
 state-of-compacted r s q =

@@ -1,4 +1,4 @@
--- Laws of the provenance word, by linear arithmetic. Assumes nothing.
+-- Laws of the provenance word, by linear arithmetic. Nothing here has to be believed.
 use mathlib.Core.Path.{_≡_}
 use Prim.Native.Nat.{ℕ, _+_, _^_, _<_, max}
 use native.Mathlib.Omega.{arith}

@@ -41,7 +41,6 @@ fn context(number: ContextId) -> Reply {
     Reply::Context(number.0)
 }
 
-#[cfg(feature = "merge")]
 fn merge(
     store: &mut [u32],
     scratch: &mut [u32],
@@ -50,11 +49,6 @@ fn merge(
     wildcard: bool,
 ) -> Result<Reply, Refusal> {
     raw::merge(store, scratch, ContextId(left), ContextId(right), wildcard).map(context)
-}
-
-#[cfg(not(feature = "merge"))]
-fn merge(_: &mut [u32], _: &mut [u32], _: u32, _: u32, _: bool) -> Result<Reply, Refusal> {
-    unreachable!("no merge without its feature")
 }
 
 /// Runs a call and compares all that it leaves with the judge; answers what both left.
@@ -99,19 +93,16 @@ pub fn every_kind(random: &mut Random, count: usize) -> Vec<Call> {
     let state = any_state(random);
     let index = if random.chance(10) { random.word() } else { narrow(random.below(4)) };
     let wildcard = random.chance(50);
-    let mut calls = vec![
+    vec![
         Call::Singleton { parent, state },
         Call::Len { context },
         Call::IsEmpty { context },
         Call::HasEmptyPath { context },
         Call::ReturnState { context, index },
         Call::Parent { context, index },
+        Call::Merge { left, right, wildcard },
         Call::Fresh,
-    ];
-    if cfg!(feature = "merge") {
-        calls.push(Call::Merge { left, right, wildcard });
-    }
-    calls
+    ]
 }
 
 /// Small states, and those at the borders of what is accepted.

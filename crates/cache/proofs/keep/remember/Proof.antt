@@ -3,7 +3,7 @@ use borrow.Author.Needs.{needs}
 use native.Mathlib.Omega.{arith}
 use mathlib.Core.Path.{ap}
 use Prim.Native.Nat.{ℕ, _+_, _*_}
-use Rattle.cache.specs.Answer.{free-at}
+use Rattle.cache.specs.Recalled.{free-at}
 use Rattle.cache.specs.Keeping.{put-remembered, none-remembered}
 use Rattle.cache.proofs.keep.remember.Statement.{statement}
 use Rattle.cache.proofs.keep.remember.Tie as tie
@@ -33,7 +33,8 @@ returns-3 c =
     let found = c .before .before .before .before .before .before .before .first-empty in
     let place = c .before .before .before .before .before .place .given .0 .0 in
     let free = free-at _ (found .result) place (found .ensures) (cc) in
-    let word = ap (λ (k : ℕ). k * 512 + c .before .before .before .before .before .before .before .before .before .before .before .before .before .before .args .result .0 + 1) (c .before .before .before .before .before .before .before .before .before .before .pair .ensures .0) in
+    let word = ap (λ (k : ℕ). k * 512 + c .before .before .before .before .before .before .before .before .before .before .before .before .before .before .args .result .0 + 1)
+    (c .before .before .before .before .before .before .before .before .before .before .pair .ensures .0) in
     rw (c .before .before .put-result .ensures)
     (put-remembered _ place _ _
     (c .before .before .before .before .before .before .before .before .before .before .before .before .before .before .pre .0) (free .0)

@@ -7,16 +7,16 @@ use native.Mathlib.Omega.{arith}
 use Rattle.arena.specs.Store.{nodeAt}
 use Rattle.arena.specs.Kinds.{size}
 use Rattle.layout.specs.Decode.{storeOf}
-use Rattle.cache.specs.Answer.{answered-as}
+use Rattle.cache.specs.Recalled.{recalled-as}
 use Rattle.arena.specs.Place.{mergeS}
 use Rattle.contexts.specs.Merging.{Merged, Merging}
 use Rattle.contexts.specs.Cycle.{left-few, right-few, sides-equal, side-swallows, cache-hit, are-apart, merged-few, remembered, swapped, apart-swapped, outcome-swapped}
-use Rattle.contexts.specs.Given.{left-readable, right-readable, store-kept, scratch-kept}
-use Rattle.contexts.specs.Inner.{Go, Heads, go-start, slot, take-lower-left, take-lower-right, take-both-heads, parents-fall, no-room}
+use Rattle.contexts.specs.SideKinds.{left-readable, right-readable, store-kept, scratch-kept}
+use Rattle.contexts.specs.MergeStep.{Go, Heads, go-start, slot, take-lower-left, take-lower-right, take-both-heads, parents-fall, no-room}
 use Rattle.contexts.specs.ArrayPair.{left-size, right-size, pair-fits, left-reads, right-reads, pair-heads, pair-inner, rest-left, rest-right, left-outcome, right-outcome}
 use Rattle.contexts.specs.ArrayEntry.{array-length, entry-plain, mixed-fits, array-reads, mixed-heads, mixed-inner, mixed-rest, mixed-rest-outcome, mixed-last, mixed-last-outcome}
 use Rattle.contexts.specs.EntryPair.{left-plain, right-plain, right-last, left-first, left-last, right-first, two-falls, two-inner, two-full, one-pushed, one-outcome}
-use Rattle.contexts.specs.declared.intern.Made.the-variants.{At, NoRoom}
+use Rattle.interning.specs.declared.inner.intern.Made.the-variants.{At, NoRoom}
 use borrow.Fn.Kinds.{In, Out, PK}
 use borrow.Fn.PlainCycle.{Measures, is, falls, and}
 use Rattle.contexts.proofs.cycle.merge.Reads as merge
@@ -43,9 +43,9 @@ use Rattle.contexts.proofs.finish.intern_with_rest.Reads as intern-with
 use Rattle.contexts.proofs.finish.intern_with_single.Reads as intern-with-single-reads
 use Rattle.contexts.proofs.finish.single_parent.Reads as single-parent-reads
 use Rattle.contexts.proofs.finish.single_state.Reads as single-state-reads
-use Rattle.contexts.proofs.intern.intern_entries.Reads as intern-entries-reads
-use Rattle.index.proofs.kind_of.Reads as kind-of-reads
-use Rattle.index.proofs.second_of.Reads as second-of-reads
+use Rattle.interning.proofs.inner.intern.intern_entries.Reads as intern-entries-reads
+use Rattle.layout.proofs.kind_of.Reads as kind-of-reads
+use Rattle.layout.proofs.second_of.Reads as second-of-reads
 use Rattle.index.proofs.put_entry.Reads as put-entry-reads
 use Rattle.contexts.proofs.cycle.+merge+merge_array_with_entry+merge_arrays+merge_two_entries+merge_uncached.{
   statement,
@@ -186,7 +186,7 @@ merge-returns-3 t c =
     let pre = c .before .before .before .before .before .before .before .before .before .before .before .before .pre in
     let at-cached = c .before .before .before .cached in
     cache-hit (pre .1) (c .before .known .given .0 .0 .0)
-    (answered-as _ _ _ (at-cached .result) (c .before .known .given .0 .0) (at-cached .ensures) (cc))
+    (recalled-as _ _ _ (at-cached .result) (c .before .known .given .0 .0) (at-cached .ensures) (cc))
 
 merge-merge-uncached-requires : Merge merge-lts.Need-merge-uncached-requires
 merge-merge-uncached-requires t c κs =

@@ -3,8 +3,8 @@ use borrow.Author.Needs.{needs}
 use native.Mathlib.Omega.{arith}
 use mathlib.Core.Path.{ap}
 use Prim.Native.Nat.{ℕ, _+_, _-_}
-use Rattle.contexts.specs.Live.{live-length, live-sound}
-use Rattle.contexts.specs.Finish.{array-within, finish-pushed, finished}
+use Rattle.interning.specs.Live.{live-length, live-sound}
+use Rattle.contexts.specs.WithRest.{array-within, finish-pushed, finished}
 use Rattle.contexts.proofs.finish.intern_with_rest.Statement.{statement}
 use Rattle.contexts.proofs.finish.intern_with_rest.Tie as tie
 
@@ -87,7 +87,8 @@ returns c =
     let second-of = c .before .before .before .before .before .before .before .before .before .before .before .before .second-of in
     let load-entries = c .before .before .before .before .before .before .before .before .before .load-entries in
     let intern-entries = c .before .before .before .before .intern-entries in
-    finished pre (ap (λ (x : ℕ). x + args .i) (first-of .ensures)) (ap (λ (x : ℕ). x - args .i) (second-of .ensures)) (load-entries .ensures) (intern-entries .result) (intern-entries .last .0) (intern-entries .last .1 .0)
+    finished pre (ap (λ (x : ℕ). x + args .i) (first-of .ensures)) (ap (λ (x : ℕ). x - args .i) (second-of .ensures)) (load-entries .ensures) (intern-entries .result)
+    (intern-entries .last .0) (intern-entries .last .1 .0)
     (intern-entries .ensures)
 
 pub intern-with-rest-spec : {M : Type 1} → statement M

@@ -1,7 +1,7 @@
 -- The entry is put after what is on the stack, and all of it interned.
 use borrow.Author.Needs.{needs}
 use native.Mathlib.Omega.{arith}
-use Rattle.contexts.specs.Last.{last-pushed, lasted}
+use Rattle.contexts.specs.WithSingle.{last-pushed, lasted}
 use Rattle.contexts.proofs.finish.intern_with_single.Statement.{statement}
 use Rattle.contexts.proofs.finish.intern_with_single.Tie as tie
 

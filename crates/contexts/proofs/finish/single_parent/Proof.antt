@@ -1,7 +1,7 @@
 -- Context 0 is `$` alone; a singleton has its own words.
 use mathlib.Core.Path.{sym, _∙_}
-use Rattle.contexts.specs.Rest.{headParent}
-use Rattle.contexts.specs.Last.{plain-few, plain-zero, plain-one}
+use Rattle.contexts.specs.EntriesFrom.{headParent}
+use Rattle.contexts.specs.WithSingle.{plain-few, plain-zero, plain-one}
 use Rattle.contexts.proofs.finish.single_parent.Statement.{statement}
 use Rattle.contexts.proofs.finish.single_parent.Tie as tie
 

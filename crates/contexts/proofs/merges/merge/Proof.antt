@@ -2,8 +2,8 @@
 use borrow.Author.Needs.{needs}
 use mathlib.Core.Path.{_≡_}
 use Rattle.store.specs.declared.inner.admit.Admitted.the-variants.{Refused}
-use Rattle.contexts.specs.Live.{live-length}
-use Rattle.contexts.specs.MergeCall.{call-refused, call-ready, call-unknown, call-merged}
+use Rattle.interning.specs.Live.{live-length}
+use Rattle.contexts.specs.MergeCall.Laws.{call-refused, call-ready, call-unknown, call-merged}
 use Rattle.contexts.proofs.merges.merge.Statement.{statement}
 use Rattle.contexts.proofs.merges.merge.Tie as tie
 
@@ -11,7 +11,8 @@ returns : tie.Need-returns
 returns c =
     let args = c .before .before .before .before .before .before .before .before .before .before .args in
     let at-admit = c .before .before .before .before .before .admit in
-    let e : at-admit .result ≡ Refused (c .before .admitted .given .0 .0) = cc in call-refused (args .store .now) (args .scratch .now) (at-admit .last .1 .0) (args .left .0) (args .right .0) (args .wildcard) (at-admit .result) (at-admit .ensures) (c .before .admitted .given .0 .0) e
+    let e : at-admit .result ≡ Refused (c .before .admitted .given .0 .0) = cc in call-refused (args .store .now) (args .scratch .now) (at-admit .last .1 .0) (args .left .0)
+    (args .right .0) (args .wildcard) (at-admit .result) (at-admit .ensures) (c .before .admitted .given .0 .0) e
 
 count-of-requires : tie.Need-count-of-requires
 count-of-requires c κs =
@@ -38,7 +39,8 @@ merge-known-requires c κs =
     let at-admit = c .before .before .before .before .before .before .before .before .before .before .admit in
     let enum-told = c .before .before .before .before .before .before .enum-told in
     let count-of = c .before .before .before .before .count-of in
-    let o = call-ready (args .store .now) (args .scratch .now) (at-admit .last .1 .0) (args .left .0) (args .right .0) (args .wildcard) (at-admit .result) (at-admit .ensures) (enum-told .given .1) in (o .0, o .1, rw (count-of .ensures) at (c .before .before .if1 .left))
+    let o = call-ready (args .store .now) (args .scratch .now) (at-admit .last .1 .0) (args .left .0) (args .right .0) (args .wildcard) (at-admit .result) (at-admit .ensures)
+    (enum-told .given .1) in (o .0, o .1, rw (count-of .ensures) at (c .before .before .if1 .left))
 
 returns-3 : tie.Need-returns-3
 returns-3 c =

@@ -2,10 +2,10 @@
 use borrow.Author.Needs.{needs}
 use native.Mathlib.Omega.{arith}
 use mathlib.Core.Path.{_≡_}
-use Rattle.contexts.specs.Live.{live-length, live-sound}
+use Rattle.interning.specs.Live.{live-length, live-sound}
 use Rattle.contexts.specs.Merging.{stuck-length}
-use Rattle.contexts.specs.declared.intern.Made.the-variants.{At, NoRoom}
-use Rattle.contexts.specs.MergeCall.{begin, merge-made, merge-refused}
+use Rattle.interning.specs.declared.inner.intern.Made.the-variants.{At, NoRoom}
+use Rattle.contexts.specs.MergeCall.Laws.{begin, merge-made, merge-refused}
 use Rattle.contexts.proofs.merges.merge_known.Statement.{statement}
 use Rattle.contexts.proofs.merges.merge_known.Tie as tie
 

@@ -2,8 +2,8 @@
 use borrow.Author.Needs.{needs}
 use native.Mathlib.Omega.{arith}
 use lib.ListN.{length-set}
-use Rattle.layout.specs.Layout.{head}
-use Rattle.index.specs.Stores.{putIndex}
+use Rattle.layout.specs.Scratch.{head}
+use Rattle.index.specs.Writes.{putIndex}
 use Rattle.index.proofs.add.add_to_index.Statement.{statement}
 use Rattle.index.proofs.add.add_to_index.Tie as tie
 

@@ -3,7 +3,8 @@ use borrow.Author.Needs.{needs}
 use native.Mathlib.Omega.{arith}
 use mathlib.Core.Path.{_≡_, sym, _∙_}
 use Prim.Native.Nat.{ℕ, _+_, _-_, _<_, _≤_}
-use Rattle.layout.specs.Layout.{parent, state, stackParent, stackState}
+use Rattle.layout.specs.Layout.{parent, state}
+use Rattle.layout.specs.Scratch.{stackParent, stackState}
 use Rattle.index.specs.Same.{entries-same, parent-other, state-other}
 use borrow.Author.Count.{below-more}
 use Rattle.index.proofs.find.same_entries.Statement.{statement}

@@ -3,7 +3,7 @@ use borrow.Author.Needs.{needs}
 use native.Mathlib.Omega.{arith}
 use mathlib.Core.Path.{_≡_, sym, _∙_}
 use Rattle.layout.specs.Layout.{second, kind}
-use Rattle.layout.specs.Decode.{node-one, node-many}
+use Rattle.layout.specs.Decode.Laws.{node-one, node-many}
 use Rattle.index.specs.Same.{stacked-512, pool-512, kind-one-other, kind-two-other, kind-zero-other}
 use Rattle.index.proofs.find.same_record.Statement.{statement}
 use Rattle.index.proofs.find.same_record.Tie as tie

@@ -1,8 +1,8 @@
 -- The words of an array, in document 01's order, by `array-hash`.
 use borrow.Author.Needs.{needs}
 use mathlib.Core.Path.{sym, _∙_}
-use Rattle.layout.specs.Layout.{stackParent, stackState}
-use Rattle.layout.specs.Listing.{listing-size}
+use Rattle.layout.specs.Scratch.{stackParent, stackState}
+use Rattle.layout.specs.Listing.Laws.{listing-size}
 use Rattle.index.specs.Records.{hashIn, stackNode}
 use Rattle.index.specs.Walk.{array-hash}
 use Rattle.index.proofs.hash.array_hash.Statement.{statement}

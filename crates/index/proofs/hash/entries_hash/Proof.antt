@@ -10,7 +10,8 @@ use Rattle.index.proofs.hash.entries_hash.Tie as tie
 returns-2 : tie.Need-returns-2
 returns-2 c =
     let args = c .before .before .before .before .before .args in
-    let one : args .n ≡ 1 = omega arith in rw one (c .empty-hash .ensures ∙ sym (dollar-hash (hashIn (args .scratch .now)) (args .scratch .now) (args .at) (sym (c .before .before .stack-state .ensures) ∙ c .before .if2 .taken)))
+    let one : args .n ≡ 1 = omega arith in rw one (c .empty-hash .ensures ∙ sym
+    (dollar-hash (hashIn (args .scratch .now)) (args .scratch .now) (args .at) (sym (c .before .before .stack-state .ensures) ∙ c .before .if2 .taken)))
 
 context-hash-requires : tie.Need-context-hash-requires
 context-hash-requires c κs =
@@ -22,7 +23,9 @@ returns-3 : tie.Need-returns-3
 returns-3 c =
     let args = c .before .before .before .before .before .before .before .args in
     let stack-state = c .before .before .before .before .stack-state in
-    let one : args .n ≡ 1 = omega arith in rw one (c .singleton-hash .ensures ∙ (rw (c .before .context-hash .ensures, c .before .before .stack-parent .ensures, stack-state .ensures)) ∙ sym (single-hash (hashIn (args .scratch .now)) (args .scratch .now) (args .at) (λ e. c .before .before .before .if2 .left (stack-state .ensures ∙ e))))
+    let one : args .n ≡ 1 = omega arith in rw one (c .singleton-hash .ensures ∙
+    (rw (c .before .context-hash .ensures, c .before .before .stack-parent .ensures, stack-state .ensures)) ∙ sym
+    (single-hash (hashIn (args .scratch .now)) (args .scratch .now) (args .at) (λ e. c .before .before .before .if2 .left (stack-state .ensures ∙ e))))
 
 pub entries-hash-spec : {M : Type 1} → statement M
 entries-hash-spec =

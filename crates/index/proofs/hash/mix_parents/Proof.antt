@@ -11,13 +11,18 @@ use Rattle.index.proofs.hash.mix_parents.Statement.{statement}
 use Rattle.index.proofs.hash.mix_parents.Tie as tie
 
 abbrev Inv-loop : tie.InvT-loop
-Inv-loop scratch at n seed hash₀ i₀ hash i = (i ≤ n) × (hashFrom seed (parentWords (hashIn scratch) (stackNode scratch at n)) ≡ hashFrom hash (parentWords (hashIn scratch) (stackNode scratch (at + i) (n - i))))
+Inv-loop scratch at n seed hash₀ i₀ hash i = (i ≤ n) × (hashFrom seed (parentWords (hashIn scratch) (stackNode scratch at n)) ≡ hashFrom hash
+    (parentWords (hashIn scratch) (stackNode scratch (at + i) (n - i))))
 
 abbrev μ-loop : tie.MeasureT-loop
 μ-loop scratch at n seed hash₀ i₀ hash i = n - i
 
 loop-holds : tie.Need-loop-holds Inv-loop μ-loop
-loop-holds c = (omega arith, ap (λ (k : _). hashFrom (c .before .args .seed) (parentWords (hashIn (c .before .args .scratch .now)) k)) (walk-start (c .before .args .scratch .now) (c .before .args .at) (c .before .args .n)))
+loop-holds c = (
+  omega arith,
+  ap (λ (k : _). hashFrom (c .before .args .seed) (parentWords (hashIn (c .before .args .scratch .now)) k))
+      (walk-start (c .before .args .scratch .now) (c .before .args .at) (c .before .args .n)),
+)
 
 stack-parent-requires : tie.Need-stack-parent-requires Inv-loop μ-loop
 stack-parent-requires c κs = (omega arith, omega arith)

@@ -1,7 +1,7 @@
 -- `high_of` reads `high`, by computation.
 use borrow.Author.Needs.{needs}
 use mathlib.Core.Path.{refl}
-use Rattle.layout.specs.Layout.{high}
+use Rattle.layout.specs.Scratch.{high}
 use Rattle.index.proofs.reads.high_of.Statement.{statement}
 use Rattle.index.proofs.reads.high_of.Tie as tie
 

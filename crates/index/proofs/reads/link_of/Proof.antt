@@ -1,7 +1,7 @@
 -- `link_of` reads `link`, by computation.
 use borrow.Author.Needs.{needs}
 use mathlib.Core.Path.{refl}
-use Rattle.layout.specs.Layout.{link}
+use Rattle.layout.specs.Scratch.{link}
 use Rattle.index.proofs.reads.link_of.Statement.{statement}
 use Rattle.index.proofs.reads.link_of.Tie as tie
 

@@ -1,7 +1,7 @@
 -- `low_of` reads `low`, by computation.
 use borrow.Author.Needs.{needs}
 use mathlib.Core.Path.{refl}
-use Rattle.layout.specs.Layout.{low}
+use Rattle.layout.specs.Scratch.{low}
 use Rattle.index.proofs.reads.low_of.Statement.{statement}
 use Rattle.index.proofs.reads.low_of.Tie as tie
 

@@ -1,7 +1,7 @@
 -- `stack_parent` reads `stackParent`, by computation.
 use borrow.Author.Needs.{needs}
 use mathlib.Core.Path.{refl}
-use Rattle.layout.specs.Layout.{stackParent}
+use Rattle.layout.specs.Scratch.{stackParent}
 use Rattle.index.proofs.reads.stack_parent.Statement.{statement}
 use Rattle.index.proofs.reads.stack_parent.Tie as tie
 

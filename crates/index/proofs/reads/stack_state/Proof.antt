@@ -1,7 +1,7 @@
 -- `stack_state` reads `stackState`, by computation.
 use borrow.Author.Needs.{needs}
 use mathlib.Core.Path.{refl}
-use Rattle.layout.specs.Layout.{stackState}
+use Rattle.layout.specs.Scratch.{stackState}
 use Rattle.index.proofs.reads.stack_state.Statement.{statement}
 use Rattle.index.proofs.reads.stack_state.Tie as tie
 

@@ -4,7 +4,7 @@ use native.Mathlib.Omega.{arith}
 use mathlib.Core.Path.{_≡_}
 use Prim.Native.Nat.{_-_, _≤_}
 use lib.ListN.{length}
-use Rattle.index.specs.Stores.{Loaded}
+use Rattle.index.specs.Writes.{Loaded}
 use Rattle.index.specs.Load.{load-none, load-more}
 use Rattle.index.proofs.stack.load_entries.Statement.{statement}
 use Rattle.index.proofs.stack.load_entries.Tie as tie
@@ -38,7 +38,8 @@ loop-again c =
     let loop = c .before .before .before .before .before .before .before .loop in
     let pool-parent = c .before .before .before .before .before .pool-parent in
     let pool-state = c .before .before .before .before .pool-state in
-    let more = load-more (args .store .now) (args .scratch .now) (loop .scratch) (args .from) (loop .i) (args .at) (pool-parent .result) (pool-state .result) (omega arith) (pool-parent .ensures) (pool-state .ensures) (loop .inv .2) in
+    let more = load-more (args .store .now) (args .scratch .now) (loop .scratch) (args .from) (loop .i) (args .at) (pool-parent .result) (pool-state .result) (omega arith)
+    (pool-parent .ensures) (pool-state .ensures) (loop .inv .2) in
     rw (c .before .before .put-entry .ensures) (omega arith, more .sized, more)
 
 same-length : tie.Need-same-length Inv-loop μ-loop

@@ -2,7 +2,7 @@
 use mathlib.Core.Path.{refl}
 use native.Mathlib.Omega.{arith}
 use lib.ListN.{length-set}
-use Rattle.index.specs.Stores.{putEntry}
+use Rattle.index.specs.Writes.{putEntry}
 use borrow.Author.Needs.{needs}
 use Rattle.index.proofs.stack.put_entry.Statement.{statement}
 use Rattle.index.proofs.stack.put_entry.Tie as tie

@@ -2,7 +2,7 @@
 use borrow.Author.Needs.{needs}
 use native.Mathlib.Omega.{arith}
 use mathlib.Core.Path.{sym}
-use Rattle.queries.specs.Known.{few, bounds-read, parent-read, parent-many-past}
+use Rattle.queries.specs.EntryWords.{few, bounds-read, parent-read, parent-many-past}
 use Rattle.queries.proofs.parents.array_parent.Statement.{statement}
 use Rattle.queries.proofs.parents.array_parent.Tie as tie
 

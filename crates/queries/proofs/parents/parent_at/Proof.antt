@@ -1,7 +1,7 @@
 -- By kind and index: context 0, an array, a singleton's parent, past the end.
 use mathlib.Core.Path.{sym, ap, _∙_}
 use Rattle.store.specs.Calls.{context}
-use Rattle.queries.specs.Known.{few, parent-zero, parent-one, parent-other-past}
+use Rattle.queries.specs.EntryWords.{few, parent-zero, parent-one, parent-other-past}
 use Rattle.queries.proofs.parents.parent_at.Statement.{statement}
 use Rattle.queries.proofs.parents.parent_at.Tie as tie
 

@@ -1,7 +1,7 @@
 -- By kind: an array's last entry, and else whether the record is that of context 0.
 use borrow.Author.Needs.{needs}
 use mathlib.Core.Path.{sym, _∙_}
-use Rattle.queries.specs.Known.{few, bounds-read, last-read, path-other}
+use Rattle.queries.specs.EntryWords.{few, bounds-read, last-read, path-other}
 use native.Mathlib.Omega.{arith}
 use Rattle.queries.proofs.paths.ends_in_mark.Statement.{statement}
 use Rattle.queries.proofs.paths.ends_in_mark.Tie as tie

@@ -1,6 +1,6 @@
 -- By kind: an array's length is its size, and any other record has one entry.
 use mathlib.Core.Path.{sym, _∙_}
-use Rattle.queries.specs.Known.{few, size-many, size-other}
+use Rattle.queries.specs.EntryWords.{few, size-many, size-other}
 use Rattle.queries.proofs.sizes.entry_count.Statement.{statement}
 use Rattle.queries.proofs.sizes.entry_count.Tie as tie
 

@@ -2,7 +2,7 @@
 use borrow.Author.Needs.{needs}
 use native.Mathlib.Omega.{arith}
 use mathlib.Core.Path.{sym}
-use Rattle.queries.specs.Known.{few, bounds-read, state-read, state-many-past}
+use Rattle.queries.specs.EntryWords.{few, bounds-read, state-read, state-many-past}
 use Rattle.queries.proofs.states.array_state.Statement.{statement}
 use Rattle.queries.proofs.states.array_state.Tie as tie
 

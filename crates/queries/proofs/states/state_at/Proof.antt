@@ -3,7 +3,7 @@ use borrow.Author.Needs.{needs}
 use mathlib.Core.Path.{sym, ap, _∙_}
 use Rattle.words.specs.Names.{expanded}
 use Rattle.store.specs.Calls.{state}
-use Rattle.queries.specs.Known.{few, state-other-past, state-one, state-zero}
+use Rattle.queries.specs.EntryWords.{few, state-other-past, state-one, state-zero}
 use Rattle.queries.proofs.states.state_at.Statement.{statement}
 use Rattle.queries.proofs.states.state_at.Tie as tie
 

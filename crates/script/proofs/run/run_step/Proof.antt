@@ -1,23 +1,25 @@
 -- An overlong script, then by what stands at the place.
 use borrow.Author.Needs.{needs}
 use native.Mathlib.Omega.{arith}
-use mathlib.Core.Path.{refl, sym, ap, _∙_}
+use mathlib.Core.Path.{sym, ap, _∙_}
 use mathlib.Core.List.{[]}
-use Rattle.script.specs.Answers.{reading, callIn}
-use Rattle.script.specs.Lines.{refusalLine}
-use Rattle.script.specs.Laid.Laws.{wrote-none}
+use Rattle.format.specs.Answers.{reading, callIn}
+use Rattle.lines.specs.Lines.{refusalLine}
+use Rattle.lines.specs.Laid.Laws.{wrote-none, wrote-length}
+use Rattle.script.specs.Steps.{lent}
 use Rattle.script.specs.Answers.Laws.{step-long, step-ended, step-malformed, step-found, ran-over, ran-next}
 use Rattle.script.proofs.run.run_step.Statement.{statement}
 use Rattle.script.proofs.run.run_step.Tie as tie
 
 returns : tie.Need-returns
-unfolding refusalLine
 returns c =
-    let args = c .before .before .before .before .before .before .args in (
-      ran-over (args .out .now) _ _ _ _ _ _ (c .lay-number .ensures)
-          (step-long (args .bytes .now) (args .at) (args .store .now) (args .scratch .now) (c .before .before .if1 .taken)),
-      omega
-          (arith, c .lay-number .ensures .within),
+    let args = c .before .before .before .before .before .before .before .before .before .args in
+    let if1 = c .before .before .before .before .before .if1 in
+    let refuse = c .before .before .refuse in
+    let words = lent (args .store .now) (args .scratch .now) in (
+      ran-over (args .out .now) _ _ _ (refusalLine 9) _ _ _ (refuse .ensures .0) (refuse .ensures .1)
+          (step-long (args .bytes .now) (args .at) words (if1 .taken)),
+      omega (arith, refuse .ensures .0 .within, wrote-length (refuse .ensures .0)),
     )
 
 returns-2 : tie.Need-returns-2
@@ -26,42 +28,50 @@ returns-2 c =
     let if1 = c .before .before .before .before .before .before .before .before .before .before .before .before .if1 in
     let decode = c .before .before .before .before .before .before .before .before .before .before .before .decode in
     let step = c .before .before .before .before .before .before .before .before .before .step in
-    let run-record = c .before .before .before .before .run-record in (
-      ran-next (args .out .now) _ _ _ _ _ (step .given .0 .1 .0) _ (run-record .ensures)
-          (step-found (args .bytes .now) (args .at) (args .store .now) (args .scratch .now) (if1 .left) (callIn (step .given .0 .0))
-          (step .given .0 .1 .0) (sym (ap reading (step .given .1)) ∙ decode .ensures)),
-      omega (arith, run-record .ensures .wrote .within),
+    let run-record = c .before .before .before .before .run-record in
+    let words = lent (args .store .now) (args .scratch .now) in
+    let next = step .given .0 .1 .0 in (
+      ran-next (args .out .now) _ _ _ _ next _ (run-record .ensures)
+          (step-found (args .bytes .now) (args .at) words (if1 .left) (callIn (step .given .0 .0)) next
+          (sym (ap reading (step .given .1)) ∙ decode .ensures)),
+      omega (arith, run-record .ensures .wrote .within, wrote-length (run-record .ensures .wrote)),
     )
 
 returns-3 : tie.Need-returns-3
 returns-3 c =
-    let args = c .before .before .before .before .before .before .before .args in (
-      ran-over (args .out .now) 0 _ _ _ _ [] (wrote-none (args .out .now) 0 (omega arith))
-          (step-ended (args .bytes .now) (args .at) (args .store .now) (args .scratch .now) (c .before .before .before .if1 .left)
-          (sym (ap reading (c .enum-told .given .1)) ∙ c .before .before .decode .ensures)),
+    let args = c .before .before .before .before .before .before .before .before .before .before .before .args in
+    let if1 = c .before .before .before .before .before .before .before .if1 in
+    let decode = c .before .before .before .before .before .before .decode in
+    let enum-told = c .before .before .before .before .enum-told in
+    let words = lent (args .store .now) (args .scratch .now) in (
+      ran-over (args .out .now) 0 _ _ [] _ _ _ (wrote-none (args .out .now) 0 (omega arith)) (c .before .before .wipe .ensures)
+          (step-ended (args .bytes .now) (args .at) words (if1 .left) (sym (ap reading (enum-told .given .1)) ∙ decode .ensures)),
       omega arith,
     )
 
 returns-4 : tie.Need-returns-4
-unfolding refusalLine
 returns-4 c =
-    let args = c .before .before .before .before .before .before .before .before .before .args in
-    let if1 = c .before .before .before .before .before .if1 in
-    let decode = c .before .before .before .before .decode in (
-      ran-over (args .out .now) _ _ _ _ _ _ (c .lay-number2 .ensures)
-          (step-malformed (args .bytes .now) (args .at) (args .store .now) (args .scratch .now) (if1 .left)
-          (sym (ap reading (c .before .before .enum-told2 .given .1)) ∙ decode .ensures)),
-      omega (arith, c .lay-number2 .ensures .within),
+    let args = c .before .before .before .before .before .before .before .before .before .before .before .before .args in
+    let if1 = c .before .before .before .before .before .before .before .before .if1 in
+    let decode = c .before .before .before .before .before .before .before .decode in
+    let enum-told2 = c .before .before .before .before .before .enum-told2 in
+    let refuse2 = c .before .before .refuse2 in
+    let words = lent (args .store .now) (args .scratch .now) in (
+      ran-over (args .out .now) _ _ _ (refusalLine 9) _ _ _ (refuse2 .ensures .0) (refuse2 .ensures .1)
+          (step-malformed (args .bytes .now) (args .at) words (if1 .left) (sym (ap reading (enum-told2 .given .1)) ∙ decode .ensures)),
+      omega (arith, refuse2 .ensures .0 .within, wrote-length (refuse2 .ensures .0)),
     )
 
 pub run-step-spec : {M : Type 1} → statement M
 run-step-spec =
     tie.close
     (tie.spec
-    (λ c κs. search needs)
+    (λ c κs. search needs) (λ c. search needs)
     returns
-    (λ c κs. search needs) (λ c. search needs) (λ c κs. search needs) (λ c. search needs) (λ c. search needs)
-    (λ c κs. search needs) (λ c. search needs) (λ c. search needs)
+    (λ c κs. search needs) (λ c. search needs) (λ c κs. search needs) (λ c. search needs) (λ c κs. search needs)
+    (λ c. search needs) (λ c κs. search needs) (λ c. search needs) (λ c. search needs)
     returns-2
+    (λ c. search needs)
     returns-3
+    (λ c. search needs)
     returns-4)

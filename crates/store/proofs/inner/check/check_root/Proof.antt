@@ -2,7 +2,7 @@
 use borrow.Author.Needs.{needs}
 use mathlib.Core.Path.{sym, _∙_}
 use Rattle.store.specs.Check.{Root}
-use Rattle.store.specs.Verdicts.{root-passed}
+use Rattle.store.specs.Judgements.{root-passed}
 use Rattle.store.proofs.inner.check.check_root.Statement.{statement}
 use Rattle.store.proofs.inner.check.check_root.Tie as tie
 

@@ -6,7 +6,7 @@ use borrow.Author.Tests.{not-true, not-false}
 use Rattle.store.specs.declared.inner.check.Checked.the-variants.{Good, Bad}
 use Rattle.layout.specs.Layout.{count}
 use Rattle.store.specs.Check.{Passed}
-use Rattle.store.specs.Verdicts.{sound-record, sound-unused, ready, verdict-if}
+use Rattle.store.specs.Judgements.{sound-record, sound-unused, ready, judged-if}
 use Rattle.store.proofs.inner.check.check_store.Statement.{statement}
 use Rattle.store.proofs.inner.check.check_store.Tie as tie
 
@@ -72,7 +72,7 @@ returns-7 c =
     let p : Passed (args .store .now) (check-records .last .1 .0) (count-of .result) (checked .given .0 .0) = rw e at (check-records .ensures) in
     let q : Passed (args .store .now) (check-records .last .1 .0) (count (args .store .now)) (checked .given .0 .0) = rw (count-of .ensures) at p in
     let root = rw (not-false (check-root .result) (if4 .left)) at (check-root .ensures) in
-    verdict-if (args .store .now) (check-records .last .1 .0) (c .unused-zero .result)
+    judged-if (args .store .now) (check-records .last .1 .0) (c .unused-zero .result)
     (λ t. ready (args .store .now) (check-records .last .1 .0) (checked .given .0 .0) (pre .0)
     (omega (arith, count-of .ensures), omega (arith, count-of .ensures), omega (arith, used-of .ensures)) (root .0) q
     (c .before .if5 .left ∙ used-of .ensures) (rw (t, count-of .ensures, used-of .ensures) at (c .unused-zero .ensures)))

@@ -24,16 +24,24 @@ returns-3 c =
     let pool-parent = c .before .before .before .before .before .pool-parent in
     let rises = c .before .before .before .rises in
     tells-if (EntryAt (state (args .store .now)) (parent (args .store .now)) (args .from) (args .place) (args .context)) _
-    (λ t. record
-    { older = omega (arith, pool-parent .ensures); rise = rw (not-false (rises .result) (c .before .before .if2 .left)) at (rises .ensures); dollar = λ _. sym (pool-parent .ensures) ∙ eqb-true _ _ t })
+    (λ t. record {
+      older = omega (arith, pool-parent .ensures);
+      rise = rw (not-false (rises .result) (c .before .before .if2 .left)) at (rises .ensures);
+      dollar = λ _. sym (pool-parent .ensures)
+          ∙ eqb-true _ _ t;
+    })
     (λ f v. eqb-false _ _ f (pool-parent .ensures ∙ v .dollar (sym (c .before .pool-state .ensures) ∙ c .if3 .taken)))
 
 returns-4 : tie.Need-returns-4
 returns-4 c =
     let pool-parent = c .before .before .before .before .before .pool-parent in
     let rises = c .before .before .before .rises in
-    record
-    { older = omega (arith, pool-parent .ensures); rise = rw (not-false (rises .result) (c .before .before .if2 .left)) at (rises .ensures); dollar = λ e. absurd (c .if3 .left (c .before .pool-state .ensures ∙ e)) }
+    record {
+      older = omega (arith, pool-parent .ensures);
+      rise = rw (not-false (rises .result) (c .before .before .if2 .left)) at (rises .ensures);
+      dollar = λ e. absurd
+          (c .if3 .left (c .before .pool-state .ensures ∙ e));
+    }
 
 pub entry-sound-spec : {M : Type 1} → statement M
 entry-sound-spec =

@@ -5,7 +5,7 @@ use borrow.Author.Tests.{not-true, not-false}
 use mathlib.Core.Bool.{false≢true}
 use Rattle.store.specs.Check.{Unused}
 use Rattle.store.specs.Judge.{tells-if}
-use Rattle.store.specs.Verdicts.{unused-of, zero-records, zero-parents, zero-states}
+use Rattle.store.specs.Judgements.{unused-of, zero-records, zero-parents, zero-states}
 use Rattle.store.proofs.inner.check.unused_zero.Statement.{statement}
 use Rattle.store.proofs.inner.check.unused_zero.Tie as tie
 

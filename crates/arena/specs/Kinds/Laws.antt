@@ -1,0 +1,47 @@
+-- Lists of entries by their size: which context, and which kind, each is interned as. Nothing here has to be believed.
+use mathlib.Core.Path.{_≡_, refl}
+use Prim.Native.Nat.{_<_, _≤_}
+use native.Mathlib.Omega.{arith}
+use lib.ListN.{length}
+use Rattle.arena.specs.Store.{Node, end, dollar, push, Store, nodeAt, at}
+use Rattle.arena.specs.Soundness.{Rise, Full, Sound}
+use Rattle.arena.specs.Trees.{node-sound}
+use Rattle.arena.specs.Place.{listed, intern}
+use Rattle.arena.specs.Placed.{intern-self}
+use Rattle.arena.specs.Kinds.{singleton, array, kindOf, size}
+
+-- ---- no entries, or `$` alone: context 0
+
+root-node : (s : Store) → Sound s → 0 < length s → nodeAt s 0 ≡ dollar
+root-node s w h = go (nodeAt s 0) (node-sound s w 0 h)
+  where
+    go : (n : Node) → Rise 0 0 n × Full n → n ≡ dollar
+    go end v = absurd (v .1)
+    go dollar v = refl
+    go (push r p n) v = absurd (omega arith)
+
+module _ (s : Store) (w : Sound s) (h : 0 < length s) where
+  pub intern-dollar : intern s dollar ≡ (0, s)
+  intern-dollar = rw (root-node s w h) at (intern-self s w 0 h)
+
+  pub intern-end : intern s end ≡ (0, s)
+  unfolding intern listed
+  intern-end = intern-dollar
+
+-- ---- one other entry: a singleton; two or more: an array
+
+pub kind-one : (n : Node) → size n ≡ 1 → (n ≡ dollar → ⊥) → kindOf n ≡ singleton
+unfolding size kindOf
+kind-one end e k = absurd (omega arith)
+kind-one dollar e k = absurd (k refl)
+kind-one (push r p end) e k = refl
+kind-one (push r p dollar) e k = absurd (omega arith)
+kind-one (push r p (push q o n)) e k = absurd (omega arith)
+
+pub kind-many : (n : Node) → 2 ≤ size n → kindOf n ≡ array
+unfolding size kindOf
+kind-many end h = absurd (omega arith)
+kind-many dollar h = absurd (omega arith)
+kind-many (push r p end) h = absurd (omega arith)
+kind-many (push r p dollar) h = refl
+kind-many (push r p (push q o n)) h = refl

@@ -1,0 +1,47 @@
+-- Tests and what they say, for proofs by cases. Nothing here has to be believed.
+use mathlib.Core.Path.{_≡_, refl, sym}
+use mathlib.Core.Logic.{_⊎_, inl, inr}
+use mathlib.Core.Bool.{Bool, true, false, _&&_, _||_, false≢true}
+
+-- yes or no
+pub bool? {ℓ} : {X : Type ℓ} (b : Bool) → (b ≡ true → X) → (b ≡ false → X) → X
+bool? true f g = f refl
+bool? false f g = g refl
+
+pub not-true : (b : Bool) → (b ≡ true → ⊥) → b ≡ false
+not-true false h = refl
+not-true true h = absurd (h refl)
+
+pub bool-stable : (a b : Bool) → ((a ≡ b → ⊥) → ⊥) → a ≡ b
+bool-stable false false h = refl
+bool-stable true true h = refl
+bool-stable false true h = absurd (h false≢true)
+bool-stable true false h = absurd (h (λ e. false≢true (sym e)))
+
+pub bool-iff : (a b : Bool) → (a ≡ true → b ≡ true) → (b ≡ true → a ≡ true) → a ≡ b
+bool-iff true true f g = refl
+bool-iff true false f g = sym (f refl)
+bool-iff false true f g = g refl
+bool-iff false false f g = refl
+
+-- ---- both tests
+
+pub and-left : (a b : Bool) → (a && b) ≡ true → a ≡ true
+and-left true b e = refl
+and-left false b e = e
+
+pub and-right : (a b : Bool) → (a && b) ≡ true → b ≡ true
+and-right true b e = e
+and-right false b e = absurd (false≢true e)
+
+pub and-both : (a b : Bool) → (a && b) ≡ true → (a ≡ true) × (b ≡ true)
+and-both a b e = (and-left a b e, and-right a b e)
+
+pub both-true : (a b : Bool) → a ≡ true → b ≡ true → (a && b) ≡ true
+both-true a b p q = rw (p, q)
+
+-- ---- either test
+
+pub or-cases : (a b : Bool) → (a || b) ≡ true → (a ≡ true) ⊎ (b ≡ true)
+or-cases true b e = inl refl
+or-cases false b e = inr e

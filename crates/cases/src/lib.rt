@@ -1,0 +1,1 @@
+// Proofs by cases, for every crate above: specs/ has lemmas alone.

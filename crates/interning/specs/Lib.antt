@@ -1,0 +1,8 @@
+pub mod Live
+pub mod Write
+pub mod Interned
+pub mod Making
+pub mod SingletonCall
+pub mod Replies
+pub mod Outcomes
+pub mod Promises

@@ -1,0 +1,77 @@
+// A return state placed on top of each stack of a context.
+use crate::inner::intern::Made;
+use crate::inner::intern::intern_entries;
+use store::inner::admit::Admitted;
+use store::inner::admit::admit;
+use words::CompactState;
+use words::Compacted;
+use words::ContextId;
+use words::Refusal;
+use words::ReturnState;
+ghost use mathlib.Core.Path.{_≡_};
+ghost use Prim.Native.Nat.{_<_};
+ghost use Rattle.layout.specs.Layout.{count, stop};
+ghost use Rattle.store.specs.Calls.{leaves};
+ghost use Rattle.interning.specs.SingletonCall.Laws.{placedSingle};
+ghost use Rattle.interning.specs.SingletonCall.{singletonCall};
+ghost use Rattle.interning.specs.Live.{Live};
+ghost use Rattle.interning.specs.Replies.{madeReply, numbered};
+
+// What a call that may make a context answers.
+pub enum Numbered {
+    Number(ContextId),
+    Refused(Refusal),
+}
+
+// The answer of a call that has made its context, or had no room for it.
+pub fn answer(made: Made) -> Numbered
+    ensures { λ r. ⌜ numbered r ≡ madeReply made ⌝ }
+{
+    match made {
+        Made::At(context) => Numbered::Number(context),
+        Made::NoRoom => Numbered::Refused(Refusal::FullStore),
+    }
+}
+
+// Places a stored state over a known context of a live store.
+fn place_single(
+    store: &mut [u32],
+    scratch: &mut [u32],
+    parent: ContextId,
+    state: CompactState,
+) -> Numbered
+    requires { ⌜ Live (now store) (now scratch) × (parent .0 < count (now store)) × (state .0 < stop) ⌝ }
+    ensures { λ r. ⌜ leaves (numbered r) (now (store .exit)) (now (scratch .exit)) ≡ placedSingle (now (store .entry)) (parent .0) (state .0) ⌝ }
+{
+    index::put_entry(scratch, 0, parent.0, state.0);
+    let made = intern_entries(store, scratch, 0, 1);
+    words::clear(scratch);
+    answer(made)
+}
+
+// The context of `state` over `parent`. Refused 2, 1, 4, 5 or 6, in this order of checking.
+pub fn singleton(
+    store: &mut [u32],
+    scratch: &mut [u32],
+    parent: ContextId,
+    state: ReturnState,
+) -> Numbered
+    ensures { λ r. ⌜ leaves (numbered r) (now (store .exit)) (now (scratch .exit)) ≡ singletonCall (now (store .entry)) (now (scratch .entry)) (parent .0) (state .0) ⌝ }
+{
+    let admitted = admit(store, scratch, parent);
+    if let Admitted::Refused(refusal) = admitted {
+        return Numbered::Refused(refusal);
+    }
+    let compact = words::compact(state);
+    match compact {
+        Compacted::Mark => {
+            words::clear(scratch);
+            Numbered::Number(ContextId(0))
+        }
+        Compacted::OutOfRange => {
+            words::clear(scratch);
+            Numbered::Refused(Refusal::StateOutOfRange)
+        }
+        Compacted::State(held) => place_single(store, scratch, parent, held),
+    }
+}

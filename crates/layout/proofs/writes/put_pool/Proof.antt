@@ -1,0 +1,24 @@
+-- The two stores are those of `putPool`, by computation.
+use borrow.Author.Needs.{needs}
+use native.Mathlib.Omega.{arith}
+use mathlib.Core.Path.{refl}
+use lib.ListN.{length-set}
+use Rattle.layout.specs.Encode.{putPool}
+use Rattle.layout.proofs.writes.put_pool.Statement.{statement}
+use Rattle.layout.proofs.writes.put_pool.Tie as tie
+
+slice-write-store-2 : tie.Need-slice-write-store-2
+slice-write-store-2 c = simp length-set (omega arith)
+
+returns : tie.Need-returns
+unfolding putPool
+returns c = refl
+
+pub put-pool-spec : {M : Type 1} → statement M
+put-pool-spec =
+    tie.close
+    (tie.spec
+    (λ c. search needs) (λ c. search needs) (λ c. search needs) (λ c. search needs) (λ c. search needs)
+    slice-write-store-2
+    (λ c. search needs)
+    returns)

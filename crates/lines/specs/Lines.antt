@@ -1,0 +1,42 @@
+-- To believe: the lines of a script's output, as bytes.
+pub mod Laws
+use mathlib.Core.List.{List, [], _∷_, _++_}
+use Prim.Native.Nat.{ℕ}
+use Rattle.arena.specs.Store.{Node, end, dollar, push}
+use Rattle.arena.specs.Kinds.{size}
+use Rattle.layout.specs.Layout.{count, used}
+use Rattle.lines.specs.Decimal.{decimal}
+
+-- bytes of the buffer in which a line is laid
+abbrev pub lineBytes : ℕ
+lineBytes = 40000
+
+-- a space and a number
+abbrev pub spaced : ℕ → List ℕ
+spaced n = 32 ∷ decimal n
+
+-- a letter, a number, a line end
+abbrev pub numberLine : ℕ → ℕ → List ℕ
+numberLine letter n = letter ∷ spaced n ++ 10 ∷ []
+
+-- "`C` number"
+unfoldable pub contextLine : ℕ → List ℕ
+contextLine n = numberLine 67 n
+
+-- "A refusal prints `R` number"
+unfoldable pub refusalLine : ℕ → List ℕ
+refusalLine n = numberLine 82 n
+
+-- "each entry as state`>`parent or `$`", with a space before it
+unfoldable pub entriesBytes : Node → List ℕ
+entriesBytes end = []
+entriesBytes dollar = 32 ∷ 36 ∷ []
+entriesBytes (push r p n) = (spaced r ++ 62 ∷ decimal p) ++ entriesBytes n
+
+-- "`E` entry count, then each entry"
+unfoldable pub entriesLine : Node → List ℕ
+entriesLine n = 69 ∷ spaced (size n) ++ entriesBytes n ++ 10 ∷ []
+
+-- "The end line is `T` contexts, pool entries": words 0 and 1 of the store
+unfoldable pub endLine : List ℕ → List ℕ
+endLine w = 84 ∷ spaced (count w) ++ spaced (used w) ++ 10 ∷ []

@@ -1,0 +1,17 @@
+// The line of one number: a context, a refusal.
+use crate::inner::digits::put_byte;
+use crate::inner::digits::put_spaced;
+ghost use mathlib.Core.Path.{_≡_};
+ghost use lib.ListN.{length};
+ghost use Rattle.lines.specs.Laid.{Wrote};
+ghost use Rattle.lines.specs.Lines.{lineBytes, numberLine};
+
+// Lays a letter, a number and a line end.
+pub fn lay_number(out: &mut [u8], letter: u8, n: u32) -> usize
+    requires { ⌜ length (now out) ≡ lineBytes ⌝ }
+    ensures { λ r. ⌜ Wrote (now (out .entry)) 0 (numberLine letter n) r (now (out .exit)) ⌝ }
+{
+    let at = put_byte(out, 0, letter);
+    let at = put_spaced(out, at, n);
+    put_byte(out, at, b'\n')
+}

@@ -1,0 +1,24 @@
+-- By cases.
+use borrow.Author.Needs.{needs}
+use mathlib.Core.Path.{refl}
+use Rattle.purse.specs.Doors.{unless, answerOf}
+use Rattle.purse.specs.Exact.{refused-answer}
+use Rattle.purse.proofs.answers.count_answer.Statement.{statement}
+use Rattle.purse.proofs.answers.count_answer.Tie as tie
+
+returns : tie.Need-returns
+unfolding unless answerOf
+returns c = rw (c .before .answer .given .1) (refl, refl)
+
+returns-2 : tie.Need-returns-2
+returns-2 c =
+    let answer2 = c .before .before .answer2 in
+    rw (answer2 .given .1) (refused-answer (answer2 .given .0 .0) (c .refusal-answer .result) _ (c .refusal-answer .ensures))
+
+pub count-answer-spec : {M : Type 1} → statement M
+count-answer-spec =
+    tie.close
+    (tie.spec
+    (λ c. search needs) (λ c. search needs) (λ c κs. search needs)
+    returns
+    returns-2)

@@ -1,0 +1,141 @@
+// Enums do not cross the border: what stands there for the answers of the calls.
+use interning::Numbered;
+use queries::Counted;
+use queries::Decided;
+use queries::ParentFound;
+use queries::StateFound;
+use store::Renewed;
+use words::Refusal;
+ghost use mathlib.Core.Path.{_≡_};
+ghost use Rattle.words.specs.Refusals.{number};
+ghost use Rattle.store.specs.Renewed.{renewed};
+ghost use Rattle.interning.specs.Replies.{numbered};
+ghost use Rattle.queries.specs.Answers.{decided, counted, parentFound, stateFound};
+ghost use Rattle.purse.specs.Doors.{answerOf, contextIn, countIn, entryOf, freshIn, parentIn, stateIn, truthIn};
+
+// A refusal's number, 0 where there is none; then the value.
+#[repr(C)]
+pub struct Answer {
+    pub refusal: u32,
+    pub value: u32,
+}
+
+// A refusal's number, 0 where there is none; then 1 and the value, or 0 where there is no entry.
+#[repr(C)]
+pub struct EntryAnswer {
+    pub refusal: u32,
+    pub found: u32,
+    pub value: u64,
+}
+
+// A refusal carries its number and nothing else.
+fn refusal_answer(refusal: Refusal) -> Answer
+    ensures { λ r. ⌜ (r .refusal ≡ number refusal) × (r .value ≡ 0) ⌝ }
+{
+    Answer {
+        refusal: words::refusal_number(refusal),
+        value: 0,
+    }
+}
+
+// The same of an entry.
+fn refusal_entry(refusal: Refusal) -> EntryAnswer
+    ensures { λ r. ⌜ (r .refusal ≡ number refusal) × (r .found ≡ 0) × (r .value ≡ 0) ⌝ }
+{
+    EntryAnswer {
+        refusal: words::refusal_number(refusal),
+        found: 0,
+        value: 0,
+    }
+}
+
+// The number for a store made afresh: 0 where it was.
+pub fn fresh_number(answer: Renewed) -> u32
+    ensures { λ r. ⌜ freshIn r ≡ renewed answer ⌝ }
+{
+    match answer {
+        Renewed::Done => 0,
+        Renewed::Refused(refusal) => words::refusal_number(refusal),
+    }
+}
+
+// The answer with a context's number.
+pub fn number_answer(answer: Numbered) -> Answer
+    ensures { λ r. ⌜ (contextIn r ≡ numbered answer) × (r ≡ answerOf (numbered answer)) ⌝ }
+{
+    match answer {
+        Numbered::Number(context) => Answer {
+            refusal: 0,
+            value: context.0,
+        },
+        Numbered::Refused(refusal) => refusal_answer(refusal),
+    }
+}
+
+// The answer with a count.
+pub fn count_answer(answer: Counted) -> Answer
+    ensures { λ r. ⌜ (countIn r ≡ counted answer) × (r ≡ answerOf (counted answer)) ⌝ }
+{
+    match answer {
+        Counted::Count(n) => Answer {
+            refusal: 0,
+            value: n,
+        },
+        Counted::Refused(refusal) => refusal_answer(refusal),
+    }
+}
+
+// The answer to a question: 1 for yes, 0 for no.
+pub fn truth_answer(answer: Decided) -> Answer
+    ensures { λ r. ⌜ (truthIn r ≡ decided answer) × (r ≡ answerOf (decided answer)) ⌝ }
+{
+    match answer {
+        Decided::Yes => Answer {
+            refusal: 0,
+            value: 1,
+        },
+        Decided::No => Answer {
+            refusal: 0,
+            value: 0,
+        },
+        Decided::Refused(refusal) => refusal_answer(refusal),
+    }
+}
+
+// The answer with the state of an entry.
+pub fn state_answer(answer: StateFound) -> EntryAnswer
+    ensures { λ r. ⌜ (stateIn r ≡ stateFound answer) × (r ≡ entryOf (stateFound answer)) ⌝ }
+{
+    match answer {
+        StateFound::State(state) => EntryAnswer {
+            refusal: 0,
+            found: 1,
+            value: state.0,
+        },
+        StateFound::Nothing => EntryAnswer {
+            refusal: 0,
+            found: 0,
+            value: 0,
+        },
+        StateFound::Refused(refusal) => refusal_entry(refusal),
+    }
+}
+
+// The answer with the parent of an entry.
+pub fn parent_answer(answer: ParentFound) -> EntryAnswer
+    ensures { λ r. ⌜ (parentIn r ≡ parentFound answer) × (r ≡ entryOf (parentFound answer)) ⌝ }
+{
+    match answer {
+        ParentFound::Parent(context) => EntryAnswer {
+            refusal: 0,
+            found: 1,
+            value: context.0 as u64,
+        },
+        ParentFound::Nothing => EntryAnswer {
+            refusal: 0,
+            found: 0,
+            value: 0,
+        },
+        ParentFound::Refused(refusal) => refusal_entry(refusal),
+    }
+}

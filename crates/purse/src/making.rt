@@ -1,0 +1,48 @@
+// The doors to the calls that write a store.
+use crate::answers::Answer;
+use crate::answers::fresh_number;
+use crate::answers::number_answer;
+use words::ContextId;
+use words::ReturnState;
+ghost use mathlib.Core.Path.{_≡_};
+ghost use Rattle.store.specs.Calls.{freshCall, leaves};
+ghost use Rattle.contexts.specs.MergeCall.{mergeCall};
+ghost use Rattle.interning.specs.SingletonCall.{singletonCall};
+ghost use Rattle.purse.specs.Doors.{answerOf, byWildcard, contextIn, freshIn};
+
+// Makes the lent words a fresh store.
+#[no_mangle]
+pub extern "C" fn purse_fresh(store: &mut [u32]) -> u32
+    ensures { λ r. ⌜ (freshIn r, now (store .exit)) ≡ freshCall (now (store .entry)) ⌝ }
+{
+    fresh_number(store::fresh(store))
+}
+
+// The context of `state` over `parent`.
+#[no_mangle]
+pub extern "C" fn purse_singleton(
+    store: &mut [u32],
+    scratch: &mut [u32],
+    parent: u32,
+    state: u64,
+) -> Answer
+    ensures { λ r. ⌜ (leaves (contextIn r) (now (store .exit)) (now (scratch .exit))
+        ≡ singletonCall (now (store .entry)) (now (scratch .entry)) parent state) × (r ≡ answerOf (contextIn r)) ⌝ }
+{
+    number_answer(interning::singleton(store, scratch, ContextId(parent), ReturnState(state)))
+}
+
+// The context of the merge of `left` and `right`: by mode 0 full-context, by any other number by wildcard.
+#[no_mangle]
+pub extern "C" fn purse_merge(
+    store: &mut [u32],
+    scratch: &mut [u32],
+    left: u32,
+    right: u32,
+    mode: u32,
+) -> Answer
+    ensures { λ r. ⌜ (leaves (contextIn r) (now (store .exit)) (now (scratch .exit))
+        ≡ mergeCall (now (store .entry)) (now (scratch .entry)) left right (byWildcard mode)) × (r ≡ answerOf (contextIn r)) ⌝ }
+{
+    number_answer(contexts::merge(store, scratch, ContextId(left), ContextId(right), mode != 0))
+}

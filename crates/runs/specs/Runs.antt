@@ -1,0 +1,48 @@
+-- To believe: accepted calls made one after another in one store, and the contexts that the full merges behind an answer go back to.
+use mathlib.Core.Path.{_≡_}
+use mathlib.Core.Bool.{true, false}
+use mathlib.Core.List.{List, [], _∷_}
+use Prim.Native.Nat.{ℕ}
+use Rattle.store.specs.Calls.{Reply, asked, Accepts}
+use Rattle.interning.specs.SingletonCall.{singletonCall}
+use Rattle.contexts.specs.MergeCall.{mergeCall}
+
+-- what a call was: a full-context merge of a and b that answered c, or any other
+pub data Event : Type 0 where
+  merged : ℕ → ℕ → ℕ → Event
+  other : Event
+
+-- one accepted call, from the store's words before to those after, with any scratch
+pub data Step : List ℕ → Event → List ℕ → Type 0 where
+  singleton : {w w′ : List ℕ} (z : List ℕ) (p r c : ℕ) → Accepts (singletonCall w z p r) c w′ → Step w other w′
+  wildcard : {w w′ : List ℕ} (z : List ℕ) (a b c : ℕ) → Accepts (mergeCall w z a b true) c w′ → Step w other w′
+  full : {w w′ : List ℕ} (z : List ℕ) (a b c : ℕ) → Accepts (mergeCall w z a b false) c w′ → Step w (merged a b c) w′
+  query : {w w′ : List ℕ} (z : List ℕ) (c : ℕ) (r : Reply) → asked w z c r .store ≡ w′ → Step w other w′
+
+-- calls one after another, the newest first
+pub data Run : List ℕ → List Event → List ℕ → Type 0 where
+  begin : {w : List ℕ} → Run w [] w
+  next : {w u v : List ℕ} {e : Event} {es : List Event} → Run w es u → Step u e v → Run w (e ∷ es) v
+
+-- ---- what full merges go back to
+
+-- full merges, in any grouping, over contexts
+pub data Merges : Type 0 where
+  context : ℕ → Merges
+  both : Merges → Merges → Merges
+
+-- c is one of the contexts merged
+pub data Names : ℕ → Merges → Type 0 where
+  here : {c : ℕ} → Names c (context c)
+  left : {c : ℕ} {x y : Merges} → Names c x → Names c (both x y)
+  right : {c : ℕ} {x y : Merges} → Names c y → Names c (both x y)
+
+-- the same contexts are named, in any order, grouping and repetition
+abbrev pub SameContexts : Merges → Merges → Type 0
+SameContexts x y = ((c : ℕ) → Names c x → Names c y) × ((c : ℕ) → Names c y → Names c x)
+
+-- the number c is the answer of the full merges x, each made by a call of the run, in whatever order; sides may be used twice
+pub data Answers : List Event → Merges → ℕ → Type 0 where
+  named : {es : List Event} {c : ℕ} → Answers es (context c) c
+  called : {es : List Event} {x y : Merges} {a b c : ℕ} → Answers es x a → Answers es y b → Answers (merged a b c ∷ es) (both x y) c
+  later : {e : Event} {es : List Event} {x : Merges} {c : ℕ} → Answers es x c → Answers (e ∷ es) x c

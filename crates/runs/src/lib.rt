@@ -1,0 +1,1 @@
+// Runs of calls, one after another in one store: definitions and theorems alone.

@@ -1,0 +1,106 @@
+-- What is true of every call that goes through a list of checks: refused exactly when a check says so, and then with nothing changed;
+-- accepted only if no check holds; and two outcomes that satisfy one contract are equal. Nothing here has to be believed.
+use mathlib.Core.Path.{_≡_, refl, sym, ap, _∙_, subst}
+use mathlib.Core.Logic.{_↔_}
+use mathlib.Core.Bool.{Bool, true, false, not, _&&_}
+use mathlib.Core.List.{List, [], _∷_, _++_, append-nil}
+use Prim.Native.Nat.{ℕ, _<_}
+use lib.Dec.{eqb, ltb}
+use lib.ListN.{length}
+use borrow.Author.Tests.{eq-eqb, ne-eqb, eqb-true, ltb-true}
+use Rattle.cases.specs.Bools.{and-left, and-right}
+use Rattle.cases.specs.Numbers.{two, never}
+use Rattle.arena.specs.Store.{Store}
+use Rattle.layout.specs.Layout.{storeWords, scratchWords, count as contexts}
+use Rattle.layout.specs.Encode.{wordsOf}
+use Rattle.layout.specs.Ceilings.{Fits}
+use Rattle.encoding.specs.Decide.{sound, fits}
+use Rattle.encoding.specs.Decide.Laws.{fits-true}
+use Rattle.store.specs.Checks.{Check, given, unless, Due, Clear}
+use Rattle.store.specs.Checks.Laws.{once, due-given, given-due, clear-of, by-unless}
+use Rattle.store.specs.Calls.{Reply, refused, context, Left, leaves, zeros, kept, refusal, wrongLength, unsoundStore, unknownContext, noRoom, made, Accepts, Keeps}
+
+-- ---- two outcomes that satisfy one contract are equal
+
+pub determined {ℓ} : {A : Type ℓ} (x y z : A) → x ≡ z → y ≡ z → x ≡ y
+determined x y z p q = cc
+
+-- ---- a refusal
+
+module _ (w z : List ℕ) (n : ℕ) where
+  pub refusal-reply : refusal w z n .reply ≡ refused n
+  unfolding refusal
+  refusal-reply = two n 2 (λ e. rw (eq-eqb n 2 e, refusal)) (λ d. rw (ne-eqb n 2 d, refusal))
+
+  pub refusal-store : refusal w z n .store ≡ w
+  unfolding refusal
+  refusal-store = two n 2 (λ e. rw (eq-eqb n 2 e, refusal)) (λ d. rw (ne-eqb n 2 d, refusal))
+
+  pub refusal-scratch : (n ≡ 2 → refusal w z n .scratch ≡ z) × ((n ≡ 2 → ⊥) → refusal w z n .scratch ≡ zeros)
+  unfolding refusal
+  refusal-scratch = (λ e. rw (eq-eqb n 2 e, refusal), λ d. rw (ne-eqb n 2 d, refusal))
+
+same-number : (n m : ℕ) → refused m ≡ refused n → m ≡ n
+same-number n m e = cc
+
+same-context : (a b : ℕ) → context a ≡ context b → a ≡ b
+same-context a b e = cc
+
+not-context : (n c : ℕ) → context c ≡ refused n → ⊥
+not-context n c e = never (cc)
+
+-- ---- a call whose answer, where it is not refused, is no refusal
+
+module _ (w z : List ℕ) (cs : List Check) (go : Left) (answers : (n : ℕ) → go .reply ≡ refused n → ⊥) where
+  -- the number n is given exactly when its reason holds and none earlier in the table
+  pub refused-exactly : once cs ≡ true → (n : ℕ) → (unless cs (refusal w z) go .reply ≡ refused n) ↔ Due n cs
+  refused-exactly o n = (
+    λ e. given-due (refusal w z) go (λ k x. x .reply ≡ refused k) (λ k m g. same-number k m (sym (refusal-reply w z m) ∙ g)) answers n cs o e,
+    λ d. ap (λ (x : Left). x .reply) (sym (ap (λ (l : List Check). unless l (refusal w z) go) (append-nil cs)) ∙ due-given (refusal w z) go n cs [] d) ∙ refusal-reply w z n,
+  )
+
+  -- and changes nothing
+  pub refused-keeps : (n : ℕ) → unless cs (refusal w z) go .reply ≡ refused n → Keeps w z n (unless cs (refusal w z) go)
+  refused-keeps n e = by-unless (refusal w z) go (λ x. x .reply ≡ refused n → Keeps w z n x) by-refusal (λ h. absurd (answers n h)) cs e
+    where
+      by-refusal : (m : ℕ) → refusal w z m .reply ≡ refused n → Keeps w z n (refusal w z m)
+      by-refusal m g =
+          let q : m ≡ n = same-number n m (sym (refusal-reply w z m) ∙ g) in record {
+            store = refusal-store w z m;
+            untouched = λ k. refusal-scratch w z m .0 (q ∙ k);
+            cleared = λ k. refusal-scratch w z m .1 (λ j. k (sym q ∙ j));
+          }
+
+-- ---- an accepted call
+
+-- it has passed every check, and the number and the words are those that it made
+pub accepted : (w z : List ℕ) (cs : List Check) (x : ℕ × Store) (c : ℕ) (w′ : List ℕ) → Accepts (unless cs (refusal w z) (made x)) c w′
+    → Clear cs × (x .0 ≡ c) × (wordsOf (x .1) ≡ w′)
+accepted w z cs x c w′ a =
+    let k = clear-of (refusal w z) (made x) (λ n o. o .reply ≡ refused n) (refusal-reply w z) cs (λ n g. not-context n c (sym (a .0) ∙ g)) in
+    (k .0, same-context (x .0) c (ap (λ (o : Left). o .reply) (sym (k .1)) ∙ a .0), ap (λ (o : Left). o .store) (sym (k .1)) ∙ a .1)
+
+-- what a check that does not hold says
+not-false : (b : Bool) → not b ≡ false → b ≡ true
+not-false true e = refl
+not-false false e = sym e
+
+module _ (w z : List ℕ) where
+  pub right-lengths : wrongLength w z .holds ≡ false → (length w ≡ storeWords) × (length z ≡ scratchWords)
+  right-lengths e =
+      let t = not-false _ e in
+      (eqb-true (length w) storeWords (and-left _ _ t), eqb-true (length z) scratchWords (and-right (eqb (length w) storeWords) _ t))
+
+  pub is-sound : unsoundStore w .holds ≡ false → sound w ≡ true
+  is-sound e = not-false (sound w) e
+
+  pub is-known : (c : ℕ) → unknownContext w c .holds ≡ false → c < contexts w
+  is-known c e = ltb-true c (contexts w) (not-false _ e)
+
+  pub both-known : (a b : ℕ) → not (ltb a (contexts w) && ltb b (contexts w)) ≡ false → (a < contexts w) × (b < contexts w)
+  both-known a b e =
+      let t = not-false _ e in
+      (ltb-true a (contexts w) (and-left _ _ t), ltb-true b (contexts w) (and-right (ltb a (contexts w)) _ t))
+
+pub has-room : (s : Store) → noRoom s .holds ≡ false → Fits s
+has-room s e = fits-true s (not-false (fits s) e)

@@ -1,0 +1,91 @@
+-- A refusal is given exactly when its reason holds and none earlier in the list. Nothing here has to be believed.
+use mathlib.Core.Path.{_≡_, refl, sym, ap, _∙_, subst}
+use mathlib.Core.Bool.{Bool, true, false, not, _&&_}
+use mathlib.Core.List.{List, [], _∷_, _++_}
+use Prim.Native.Nat.{ℕ}
+use lib.Dec.{eqb}
+use borrow.Author.Tests.{eq-eqb, ne-eqb, eqb-true, eqb-false, not-true}
+use Rattle.cases.specs.Bools.{bool?, and-left, and-right}
+use Rattle.store.specs.Checks.{Check, unless, dueIf, Due, Clear}
+
+-- no check of the list has the number n
+unfoldable pub absent : ℕ → List Check → Bool
+absent n [] = true
+absent n (c ∷ cs) = not (eqb (c .number) n) && absent n cs
+
+-- each number stands once
+unfoldable pub once : List Check → Bool
+once [] = true
+once (c ∷ cs) = absent (c .number) cs && once cs
+
+module _ (n : ℕ) (c : Check) (cs : List Check) where
+  here : eqb (c .number) n ≡ true → Due n (c ∷ cs) → c .holds ≡ true
+  here e d = subst (λ (b : Bool). dueIf b (c .holds) (Due n cs)) e d
+
+  later : eqb (c .number) n ≡ false → Due n (c ∷ cs) → (c .holds ≡ false) × Due n cs
+  later e d = subst (λ (b : Bool). dueIf b (c .holds) (Due n cs)) e d
+
+-- a refusal that is due is listed
+due-listed : (n m : ℕ) (cs : List Check) → absent m cs ≡ true → Due n cs → eqb m n ≡ false
+unfolding absent
+due-listed n m (c ∷ cs) a d =
+    bool? (eqb (c .number) n)
+    (λ e. ne-eqb m n (λ q. eqb-false (c .number) m (not-true _ (and-left _ _ a)) (eqb-true (c .number) n e ∙ sym q)))
+    (λ e. due-listed n m cs (and-right (not (eqb (c .number) m)) _ a) (later n c cs e d .1))
+
+module _ {ℓ} {A : Type ℓ} (refuse : ℕ → A) (go : A) where
+  pub unless-first : (c : Check) (cs : List Check) → c .holds ≡ true → unless (c ∷ cs) refuse go ≡ refuse (c .number)
+  unfolding unless
+  unless-first c cs e = rw (e, unless)
+
+  pub unless-next : (c : Check) (cs : List Check) → c .holds ≡ false → unless (c ∷ cs) refuse go ≡ unless cs refuse go
+  unfolding unless
+  unless-next c cs e = rw (e, unless)
+
+  -- no reason holds: the call goes on with the checks that follow
+  pub clear-goes : (cs more : List Check) → Clear cs → unless (cs ++ more) refuse go ≡ unless more refuse go
+  clear-goes [] more v = refl
+  clear-goes (c ∷ cs) more v = unless-next c (cs ++ more) (v .0) ∙ clear-goes cs more (v .1)
+
+  -- a refusal that is due is given, whatever follows
+  pub due-given : (n : ℕ) (cs more : List Check) → Due n cs → unless (cs ++ more) refuse go ≡ refuse n
+  due-given n (c ∷ cs) more d =
+      bool? (eqb (c .number) n)
+      (λ e. unless-first c (cs ++ more) (here n c cs e d) ∙ ap refuse (eqb-true (c .number) n e))
+      (λ e. let r = later n c cs e d in unless-next c (cs ++ more) (r .0) ∙ due-given n cs more (r .1))
+
+  -- and only then: G n says of an outcome that it is the refusal n
+  module _ (G : ℕ → A → Type 0) (one : (n m : ℕ) → G n (refuse m) → m ≡ n) (none : (n : ℕ) → G n go → ⊥) where
+    pub given-due : (n : ℕ) (cs : List Check) → once cs ≡ true → G n (unless cs refuse go) → Due n cs
+    unfolding once unless
+    given-due n [] o g = none n g
+    given-due n (c ∷ cs) o g =
+        bool? (c .holds)
+        (λ e.
+        let same : eqb (c .number) n ≡ true = eq-eqb (c .number) n (one n (c .number) (subst (G n) (unless-first c cs e) g)) in
+        subst (λ (b : Bool). dueIf b (c .holds) (Due n cs)) (sym same) e)
+        (λ e.
+        let d : Due n cs = given-due n cs (and-right (absent (c .number) cs) _ o) (subst (G n) (unless-next c cs e) g) in
+        subst (λ (b : Bool). dueIf b (c .holds) (Due n cs)) (sym (due-listed n (c .number) cs (and-left _ _ o) d)) (e, d))
+
+  -- an outcome that is no refusal has passed all checks
+  pub clear-of : (G : ℕ → A → Type 0) → ((n : ℕ) → G n (refuse n)) → (cs : List Check) → ((n : ℕ) → G n (unless cs refuse go) → ⊥)
+      → Clear cs × (unless cs refuse go ≡ go)
+  unfolding unless
+  clear-of G r [] h = (tt, refl)
+  clear-of G r (c ∷ cs) h =
+      bool? (c .holds)
+      (λ e. absurd (h (c .number) (subst (G (c .number)) (sym (unless-first c cs e)) (r (c .number)))))
+      (λ e.
+      let q = unless-next c cs e in
+      let k = clear-of G r cs (λ n g. h n (subst (G n) (sym q) g)) in
+      ((e, k .0), q ∙ k .1))
+
+-- what holds of every refusal and of the call that goes on holds of the outcome
+pub by-unless {ℓ} : {A : Type ℓ} (refuse : ℕ → A) (go : A) (P : A → Type 0) → ((n : ℕ) → P (refuse n)) → P go → (cs : List Check) → P (unless cs refuse go)
+unfolding unless
+by-unless refuse go P r g [] = g
+by-unless refuse go P r g (c ∷ cs) =
+    bool? (c .holds)
+    (λ e. subst P (sym (unless-first refuse go c cs e)) (r (c .number)))
+    (λ e. subst P (sym (unless-next refuse go c cs e)) (by-unless refuse go P r g cs))

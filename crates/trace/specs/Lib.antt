@@ -1,0 +1,2 @@
+-- What the contracts of this program cite. To believe: Traced.
+pub mod Traced
