@@ -2,11 +2,12 @@
 -- store knows the number; older sets kept; the numbering rule; sides exchanged; a refused one exactly when, and with nothing changed; its
 -- outcome determined. Nothing here has to be believed.
 use mathlib.Core.Path.{_≡_, refl, sym, ap, _∙_}
-use mathlib.Core.Logic.{_↔_}
-use mathlib.Core.Bool.{Bool, true, false, _||_}
-use mathlib.Core.List.{List}
+use mathlib.Core.Logic.{_↔_, _⊎_}
+use mathlib.Core.Bool.{Bool, true, false, not, _&&_, _||_}
+use mathlib.Core.List.{List, [], _∷_}
 use Prim.Native.Nat.{ℕ, _<_, _≤_}
 use native.Mathlib.Omega.{arith}
+use lib.Dec.{ltb}
 use lib.ListN.{length}
 use Rattle.cases.specs.Numbers.{below?}
 use Rattle.stacks.specs.Forest.{Forest, mem}
@@ -32,17 +33,18 @@ use Rattle.encoding.specs.Good.{GoodStore}
 use Rattle.encoding.specs.Decoded.{decoded}
 use Rattle.encoding.specs.Decide.{sound}
 use Rattle.encoding.specs.Decide.Laws.{sound-true}
-use Rattle.store.specs.Checks.{Due}
+use Rattle.store.specs.Checks.{given, Exactly, reason, DueBy}
 use Rattle.store.specs.Checks.Laws.{once, absent}
-use Rattle.store.specs.Calls.{refused, Left, leaves, made, Accepts, Keeps}
-use Rattle.store.specs.Calls.Laws.{refused-exactly, refused-keeps, accepted, right-lengths, is-sound, both-known, has-room}
+use Rattle.store.specs.Reasons.Laws.{store-decides, both-decide, room-decides}
+use Rattle.store.specs.Calls.{refused, Left, leaves, noRoom, made, Accepts, Keeps}
+use Rattle.store.specs.Calls.Laws.{refused-by, refused-keeps, accepted, right-lengths, is-sound, both-known, has-room}
 use Rattle.store.specs.Nested.{ifKnown, grown}
 use Rattle.store.specs.Admit.{known-goes, unknown}
 use Rattle.interning.specs.SingletonCall.Laws.{checked-agree}
 use Rattle.interning.specs.Replies.{numbered}
 use Rattle.interning.specs.Promises.{After, after-of, no-refusal, call-determined}
 use Rattle.interning.specs.declared.single.Numbered.{Numbered}
-use Rattle.contexts.specs.MergeCall.{mergeChecks, mergeCall}
+use Rattle.contexts.specs.MergeCall.{mergeChecks, mergeCall, mergeReasons}
 use Rattle.contexts.specs.MergeCall.Laws.{merge-nested}
 
 -- ---- an accepted merge
@@ -166,11 +168,15 @@ equal-exactly w l s a b h k =
 
 -- ---- a refused merge: exactly when, and with nothing changed
 
-pub merge-refused-exactly : (w z : List ℕ) (a b : ℕ) (m : Bool) (n : ℕ) → (mergeCall w z a b m .reply ≡ refused n) ↔ Due n (mergeChecks w z a b m)
+pub merge-refused-exactly : (w z : List ℕ) (a b : ℕ) (m : Bool) (n : ℕ) → Exactly (mergeCall w z a b m .reply ≡ refused n) (DueBy n (mergeReasons w z a b m))
 unfolding mergeCall mergeChecks once absent
 merge-refused-exactly w z a b m n =
     let x = mergeS m (storeOf w) a b in
-    refused-exactly w z (mergeChecks w z a b m) (made x) (no-refusal x) refl n
+    let room = noRoom (x .1) ∷ [] in
+    let because = reason 6 (Fits (x .1) → ⊥) ∷ [] in
+    refused-by w z (mergeChecks w z a b m) (made x) (no-refusal x) refl (mergeReasons w z a b m)
+    (store-decides w z (given 4 (not (ltb a (contexts w) && ltb b (contexts w))) ∷ room) (reason 4 ((contexts w ≤ a) ⊎ (contexts w ≤ b)) ∷ because)
+    (λ l s. both-decide w a b room because (λ h k. room-decides (x .1)))) n
 
 pub merge-refused-keeps : (w z : List ℕ) (a b : ℕ) (m : Bool) (n : ℕ) → mergeCall w z a b m .reply ≡ refused n → Keeps w z n (mergeCall w z a b m)
 unfolding mergeCall

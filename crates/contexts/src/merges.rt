@@ -19,7 +19,7 @@ ghost use Rattle.interning.specs.Live.{Live};
 ghost use Rattle.interning.specs.Replies.{numbered};
 
 // Merges two known contexts of a live store. Where there is no room, what was made is taken out again.
-fn merge_known(
+pub fn merge_known(
     store: &mut [u32],
     scratch: &mut [u32],
     left: ContextId,

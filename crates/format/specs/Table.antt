@@ -1,4 +1,4 @@
--- How the code's table writes a payload down: a length, or a mark. Nothing here has to be believed: `payload_fits` says what is accepted.
+-- How the code's table writes a payload down: a length, or a mark. Nothing here has to be believed: `accepts` says what a payload may be.
 use mathlib.Core.Bool.{Bool, true, false}
 use Prim.Native.Nat.{ℕ, _+_, _%_}
 use lib.Dec.{eqb, ltb}

@@ -1,16 +1,19 @@
 -- To believe: the call that places a state over a context, as a function of what came in: document 01's table in its order of checking.
 pub mod Laws
+use mathlib.Core.Path.{_≡_}
 use mathlib.Core.Bool.{Bool, true, false, not, _&&_}
 use mathlib.Core.List.{List, [], _∷_}
-use Prim.Native.Nat.{ℕ}
+use Prim.Native.Nat.{ℕ, _≤_}
 use lib.Dec.{eqb, leb}
 use Rattle.stacks.specs.Forest.{none, over}
 use Rattle.words.specs.Names.{emptyMark}
 use Rattle.arena.specs.Store.{Store, tree}
 use Rattle.arena.specs.Place.{place}
-use Rattle.layout.specs.Layout.{stop}
+use Rattle.layout.specs.Layout.{stop, count as contexts}
+use Rattle.layout.specs.Ceilings.{Fits}
 use Rattle.layout.specs.Decode.{storeOf}
-use Rattle.store.specs.Checks.{Check, given, unless}
+use Rattle.store.specs.Checks.{Check, given, unless, Reason, reason}
+use Rattle.store.specs.Reasons.{storeReasons}
 use Rattle.store.specs.Calls.{Left, refusal, wrongLength, unsoundStore, unknownContext, noRoom, made}
 
 -- r on top of each stack of p; "the empty mark 18446744073709551615 answers 0"
@@ -24,3 +27,9 @@ singletonChecks w z p r =
 
 unfoldable pub singletonCall : List ℕ → List ℕ → ℕ → ℕ → Left
 singletonCall w z p r = unless (singletonChecks w z p r) (refusal w z) (made (singleS (storeOf w) p r))
+
+-- the reasons in words; no number above the empty mark is a return state
+abbrev pub singletonReasons : List ℕ → List ℕ → ℕ → ℕ → List Reason
+singletonReasons w z p r =
+    storeReasons w z
+    (reason 4 (contexts w ≤ p) ∷ reason 5 ((stop ≤ r) × (r ≡ emptyMark → ⊥)) ∷ reason 6 (Fits (singleS (storeOf w) p r .1) → ⊥) ∷ [])

@@ -1,4 +1,4 @@
--- The ceilings as a statement; the test is `fits`. Nothing here has to be believed.
+-- To believe: the ceilings as a statement.
 use Prim.Native.Nat.{_≤_}
 use lib.ListN.{length}
 use Rattle.arena.specs.Store.{Store}

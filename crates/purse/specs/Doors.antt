@@ -1,73 +1,36 @@
--- To believe: what the doors' numbers and structs stand for: the reply that each is read back as, and the one struct for each reply.
-use mathlib.Core.Bool.{Bool, true, false, not}
+-- To believe: what a door to a call leaves, and how the mode of a merge is read.
+pub mod Laws
+use mathlib.Core.Path.{_≡_}
+use mathlib.Core.Bool.{Bool, not}
+use mathlib.Core.List.{List}
 use Prim.Native.Nat.{ℕ}
 use lib.Dec.{eqb}
-use Rattle.store.specs.Calls.{Reply, refused, done, shown, context, count, state, holds, none}
-use Rattle.purse.specs.declared.answers.Answer.{Answer}
-use Rattle.purse.specs.declared.answers.EntryAnswer.{EntryAnswer}
+use Rattle.sets.specs.Config.{Config}
+use Rattle.sets.specs.Calls.{SetReply, SetLeft}
+use Rattle.store.specs.Calls.{Reply, Left}
 
 -- the mode of a merge: 0 is full-context, every other number by wildcard
 abbrev pub byWildcard : ℕ → Bool
 byWildcard m = not (eqb m 0)
 
--- ---- read back: a refusal by its number; where that is 0, what was asked for
+-- what stands for the reply of the call x, and the words that x leaves
+pub record Opens {A : Type 0} (of : Reply → A) (x : Left) (a : A) (w z : List ℕ) : Type 0 where
+  pub answer : a ≡ of (x .reply)
+  pub store : w ≡ x .store
+  pub scratch : z ≡ x .scratch
 
-unfoldable pub unless : ℕ → Reply → Reply
-unless n r = elim (eqb n 0) [ true ↦ r | false ↦ refused n ]
+-- ---- the same of a call on a set
 
--- a fresh store
-abbrev pub freshIn : ℕ → Reply
-freshIn n = unless n done
+-- the mode of a fresh set: 0 is full-context
+abbrev pub byFullContext : ℕ → Bool
+byFullContext m = eqb m 0
 
--- a context's number
-abbrev pub contextIn : Answer → Reply
-contextIn a = unless (a .refusal) (context (a .value))
+-- a config by its six words in their order
+abbrev pub config : ℕ → ℕ → ℕ → ℕ → ℕ → ℕ → Config
+config s a c m r p = record { state = s; alternative = a; context = c; semantic = m; reach = r; provenance = p }
 
--- how many entries
-abbrev pub countIn : Answer → Reply
-countIn a = unless (a .refusal) (count (a .value))
-
--- yes or no
-abbrev pub truthIn : Answer → Reply
-truthIn a = unless (a .refusal) (holds (eqb (a .value) 1))
-
--- what was found of an entry
-unfoldable pub ifFound : ℕ → Reply → Reply
-ifFound n r = elim (eqb n 1) [ true ↦ r | false ↦ none ]
-
--- an entry's state
-abbrev pub stateIn : EntryAnswer → Reply
-stateIn a = unless (a .refusal) (ifFound (a .found) (state (a .value)))
-
--- an entry's parent
-abbrev pub parentIn : EntryAnswer → Reply
-parentIn a = unless (a .refusal) (ifFound (a .found) (context (a .value)))
-
--- ---- the struct for a reply: a refusal carries its number and nothing else, a missing entry nothing
-
-abbrev pub answer : ℕ → ℕ → Answer
-answer n v = record { refusal = n; value = v }
-
-unfoldable pub answerOf : Reply → Answer
-answerOf (refused n) = answer n 0
-answerOf done = answer 0 0
-answerOf shown = answer 0 0
-answerOf (context c) = answer 0 c
-answerOf (count n) = answer 0 n
-answerOf (state s) = answer 0 s
-answerOf (holds true) = answer 0 1
-answerOf (holds false) = answer 0 0
-answerOf none = answer 0 0
-
-abbrev pub entryAnswer : ℕ → ℕ → ℕ → EntryAnswer
-entryAnswer n f v = record { refusal = n; found = f; value = v }
-
-unfoldable pub entryOf : Reply → EntryAnswer
-entryOf (refused n) = entryAnswer n 0 0
-entryOf (state s) = entryAnswer 0 1 s
-entryOf (context c) = entryAnswer 0 1 c
-entryOf (count n) = entryAnswer 0 1 n
-entryOf (holds b) = entryAnswer 0 0 0
-entryOf done = entryAnswer 0 0 0
-entryOf shown = entryAnswer 0 0 0
-entryOf none = entryAnswer 0 0 0
+pub record OpensSet {A : Type 0} (of : SetReply → A) (x : SetLeft) (a : A) (w v z : List ℕ) : Type 0 where
+  pub answer : a ≡ of (x .reply)
+  pub store : w ≡ x .store
+  pub set : v ≡ x .set
+  pub scratch : z ≡ x .scratch

@@ -1,21 +1,19 @@
 // The doors to the entry queries.
-use crate::answers::Answer;
-use crate::answers::EntryAnswer;
-use crate::answers::count_answer;
-use crate::answers::parent_answer;
-use crate::answers::state_answer;
-use crate::answers::truth_answer;
+use answers::Answer;
+use answers::EntryAnswer;
+use answers::count_answer;
+use answers::parent_answer;
+use answers::state_answer;
+use answers::truth_answer;
 use words::ContextId;
-ghost use mathlib.Core.Path.{_≡_};
-ghost use Rattle.store.specs.Calls.{leaves};
 ghost use Rattle.queries.specs.Queries.{hasEmptyPathCall, isEmptyCall, lenCall, parentCall, returnStateCall};
-ghost use Rattle.purse.specs.Doors.{answerOf, countIn, entryOf, parentIn, stateIn, truthIn};
+ghost use Rattle.answers.specs.Answers.{answerOf, entryOf};
+ghost use Rattle.purse.specs.Doors.{Opens};
 
 // How many entries has a context?
 #[no_mangle]
 pub extern "C" fn purse_len(store: &[u32], scratch: &mut [u32], context: u32) -> Answer
-    ensures { λ r. ⌜ (leaves (countIn r) (now (store .entry)) (now (scratch .exit))
-        ≡ lenCall (now (store .entry)) (now (scratch .entry)) context) × (r ≡ answerOf (countIn r)) ⌝ }
+    ensures { λ r. ⌜ Opens answerOf (lenCall (now (store .entry)) (now (scratch .entry)) context) r (now (store .entry)) (now (scratch .exit)) ⌝ }
 {
     count_answer(queries::len(store, scratch, ContextId(context)))
 }
@@ -23,8 +21,7 @@ pub extern "C" fn purse_len(store: &[u32], scratch: &mut [u32], context: u32) ->
 // Is a context exactly the set of the empty stack?
 #[no_mangle]
 pub extern "C" fn purse_is_empty(store: &[u32], scratch: &mut [u32], context: u32) -> Answer
-    ensures { λ r. ⌜ (leaves (truthIn r) (now (store .entry)) (now (scratch .exit))
-        ≡ isEmptyCall (now (store .entry)) (now (scratch .entry)) context) × (r ≡ answerOf (truthIn r)) ⌝ }
+    ensures { λ r. ⌜ Opens answerOf (isEmptyCall (now (store .entry)) (now (scratch .entry)) context) r (now (store .entry)) (now (scratch .exit)) ⌝ }
 {
     truth_answer(queries::is_empty(store, scratch, ContextId(context)))
 }
@@ -32,8 +29,7 @@ pub extern "C" fn purse_is_empty(store: &[u32], scratch: &mut [u32], context: u3
 // Is the empty stack one of a context's?
 #[no_mangle]
 pub extern "C" fn purse_has_empty_path(store: &[u32], scratch: &mut [u32], context: u32) -> Answer
-    ensures { λ r. ⌜ (leaves (truthIn r) (now (store .entry)) (now (scratch .exit))
-        ≡ hasEmptyPathCall (now (store .entry)) (now (scratch .entry)) context) × (r ≡ answerOf (truthIn r)) ⌝ }
+    ensures { λ r. ⌜ Opens answerOf (hasEmptyPathCall (now (store .entry)) (now (scratch .entry)) context) r (now (store .entry)) (now (scratch .exit)) ⌝ }
 {
     truth_answer(queries::has_empty_path(store, scratch, ContextId(context)))
 }
@@ -46,8 +42,7 @@ pub extern "C" fn purse_return_state(
     context: u32,
     index: u32,
 ) -> EntryAnswer
-    ensures { λ r. ⌜ (leaves (stateIn r) (now (store .entry)) (now (scratch .exit))
-        ≡ returnStateCall (now (store .entry)) (now (scratch .entry)) context index) × (r ≡ entryOf (stateIn r)) ⌝ }
+    ensures { λ r. ⌜ Opens entryOf (returnStateCall (now (store .entry)) (now (scratch .entry)) context index) r (now (store .entry)) (now (scratch .exit)) ⌝ }
 {
     state_answer(queries::return_state(store, scratch, ContextId(context), index))
 }
@@ -60,8 +55,7 @@ pub extern "C" fn purse_parent(
     context: u32,
     index: u32,
 ) -> EntryAnswer
-    ensures { λ r. ⌜ (leaves (parentIn r) (now (store .entry)) (now (scratch .exit))
-        ≡ parentCall (now (store .entry)) (now (scratch .entry)) context index) × (r ≡ entryOf (parentIn r)) ⌝ }
+    ensures { λ r. ⌜ Opens entryOf (parentCall (now (store .entry)) (now (scratch .entry)) context index) r (now (store .entry)) (now (scratch .exit)) ⌝ }
 {
     parent_answer(queries::parent(store, scratch, ContextId(context), index))
 }

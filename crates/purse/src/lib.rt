@@ -1,10 +1,11 @@
 // The doors: each call as a C function over plain numbers and slices.
-mod answers;
+mod adding;
 mod asking;
 mod making;
 
-pub use answers::Answer;
-pub use answers::EntryAnswer;
+pub use adding::purse_add;
+pub use adding::purse_close;
+pub use adding::purse_fresh_set;
 pub use asking::purse_has_empty_path;
 pub use asking::purse_is_empty;
 pub use asking::purse_len;

@@ -1,19 +1,20 @@
 // The doors to the calls that write a store.
-use crate::answers::Answer;
-use crate::answers::fresh_number;
-use crate::answers::number_answer;
+use answers::Answer;
+use answers::fresh_number;
+use answers::number_answer;
 use words::ContextId;
 use words::ReturnState;
 ghost use mathlib.Core.Path.{_≡_};
-ghost use Rattle.store.specs.Calls.{freshCall, leaves};
+ghost use Rattle.store.specs.Calls.{freshCall};
 ghost use Rattle.contexts.specs.MergeCall.{mergeCall};
 ghost use Rattle.interning.specs.SingletonCall.{singletonCall};
-ghost use Rattle.purse.specs.Doors.{answerOf, byWildcard, contextIn, freshIn};
+ghost use Rattle.answers.specs.Answers.{answerOf, numberOf};
+ghost use Rattle.purse.specs.Doors.{Opens, byWildcard};
 
 // Makes the lent words a fresh store.
 #[no_mangle]
 pub extern "C" fn purse_fresh(store: &mut [u32]) -> u32
-    ensures { λ r. ⌜ (freshIn r, now (store .exit)) ≡ freshCall (now (store .entry)) ⌝ }
+    ensures { λ r. ⌜ (r ≡ numberOf (freshCall (now (store .entry)) .0)) × (now (store .exit) ≡ freshCall (now (store .entry)) .1) ⌝ }
 {
     fresh_number(store::fresh(store))
 }
@@ -26,8 +27,7 @@ pub extern "C" fn purse_singleton(
     parent: u32,
     state: u64,
 ) -> Answer
-    ensures { λ r. ⌜ (leaves (contextIn r) (now (store .exit)) (now (scratch .exit))
-        ≡ singletonCall (now (store .entry)) (now (scratch .entry)) parent state) × (r ≡ answerOf (contextIn r)) ⌝ }
+    ensures { λ r. ⌜ Opens answerOf (singletonCall (now (store .entry)) (now (scratch .entry)) parent state) r (now (store .exit)) (now (scratch .exit)) ⌝ }
 {
     number_answer(interning::singleton(store, scratch, ContextId(parent), ReturnState(state)))
 }
@@ -41,8 +41,7 @@ pub extern "C" fn purse_merge(
     right: u32,
     mode: u32,
 ) -> Answer
-    ensures { λ r. ⌜ (leaves (contextIn r) (now (store .exit)) (now (scratch .exit))
-        ≡ mergeCall (now (store .entry)) (now (scratch .entry)) left right (byWildcard mode)) × (r ≡ answerOf (contextIn r)) ⌝ }
+    ensures { λ r. ⌜ Opens answerOf (mergeCall (now (store .entry)) (now (scratch .entry)) left right (byWildcard mode)) r (now (store .exit)) (now (scratch .exit)) ⌝ }
 {
     number_answer(contexts::merge(store, scratch, ContextId(left), ContextId(right), mode != 0))
 }

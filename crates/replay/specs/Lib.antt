@@ -1,2 +1,2 @@
--- What the contracts of this program cite.
+-- What the contracts of this program cite. To believe: Sample.
 pub mod Sample

@@ -1,5 +1,5 @@
--- A sample of scripts with their answers: "its length (u32), its bytes, the length of its answer (u32), the answer's bytes; all little-endian,
--- one after the other, to the end of the file". What is counted in it. Nothing here has to be believed.
+-- To believe: a sample of scripts with their answers, and what is counted in it. "its length (u32), its bytes, the length of its answer (u32),
+-- the answer's bytes; all little-endian, one after the other, to the end of the file".
 pub mod Laws
 use mathlib.Core.Path.{_≡_}
 use mathlib.Core.List.{List}
@@ -11,6 +11,10 @@ use Rattle.replay.specs.declared.sample.Part.{Part}
 use Rattle.replay.specs.declared.sample.Part.the-variants.{Found, Cut as noPart}
 use Rattle.replay.specs.declared.sample.Tally.{Tally}
 use Rattle.replay.specs.declared.sample.Tally.the-variants.{Whole, Cut as noTally}
+
+-- bytes of a sample, at most
+abbrev pub sampleBytes : ℕ
+sampleBytes = 1048576
 
 -- the bytes from place i up to, not including, place j
 abbrev pub partOf : List ℕ → ℕ → ℕ → List ℕ

@@ -7,12 +7,16 @@ use sample::Tally;
 use sample::compare;
 ghost use mathlib.Core.Path.{_≡_};
 ghost use lib.ListN.{length};
+ghost use Rattle.replay.specs.Sample.{sampleBytes};
 
-// Room for a sample of at most a megabyte.
-fn room() -> [u8; 1048576]
-    ensures { λ r. ⌜ 1048576 ≡ length r ⌝ }
+// Bytes of a sample, at most.
+const SAMPLE_BYTES: usize = 1048576;
+
+// Room for a sample.
+fn room() -> [u8; SAMPLE_BYTES]
+    ensures { λ r. ⌜ sampleBytes ≡ length r ⌝ }
 {
-    [0; 1048576]
+    [0; SAMPLE_BYTES]
 }
 
 // Prints what a comparison found.

@@ -6,7 +6,8 @@ use lib.ListN.{length}
 use Rattle.lines.specs.Laid.{laid}
 use Rattle.script.specs.declared.run.Ran.{Ran}
 use Rattle.script.specs.declared.run.Ran.the-variants.{Next, Over}
-use Rattle.script.specs.Steps.{Lent, After, goes, over, Stepped}
+use Rattle.replies.specs.Replies.{Lent}
+use Rattle.script.specs.Steps.{After, goes, over, Stepped}
 
 -- where a step goes on, and how many bytes it laid out
 abbrev pub afterOf : Ran → After

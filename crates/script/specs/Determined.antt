@@ -7,8 +7,9 @@ use Prim.Native.Nat.{ℕ}
 use Rattle.store.specs.Check.{Tells}
 use Rattle.script.specs.declared.run.Ran.{Ran}
 use Rattle.script.specs.declared.run.Ran.the-variants.{Next, Over}
-use Rattle.script.specs.Steps.{Lent, After, goes, over, stepOf, scriptReplies}
-use Rattle.script.specs.Answers.{afterOf, wroteOf, Behind, behind, laidOut}
+use Rattle.replies.specs.Replies.{Lent}
+use Rattle.script.specs.Steps.{goes, over, stepOf, scriptReplies}
+use Rattle.script.specs.Answers.{Behind, behind, laidOut}
 
 -- the answer, back from what it stands for
 unfoldable ranOf : Behind → Ran

@@ -23,7 +23,8 @@ use Rattle.format.specs.Payloads.{payloads, payloadOf, accepts}
 use Rattle.format.specs.Format.{Record, singleton, merge, show, found, ended, malformed, payloadAt, recordAt, readAt}
 use Rattle.lines.specs.Decimal.{digits, decimal}
 use Rattle.lines.specs.Lines.{contextLine, refusalLine, entriesBytes, entriesLine, endLine}
-use Rattle.script.specs.Steps.{Lent, fresh, lineOf, callOf, wiped, readingStep, stepOf, runFrom, runOf, scriptReplies}
+use Rattle.replies.specs.Replies.{Lent, lineOf, callOf}
+use Rattle.script.specs.Steps.{fresh, wiped, readingStep, stepOf, runFrom, runOf, scriptReplies}
 
 -- the definitions that the examples compute, by layer, under one name
 unfoldable sets : Unit {0}

@@ -5,7 +5,8 @@ use Prim.Native.Nat.{ℕ, zero, suc, _-_, _<_}
 use native.Mathlib.Omega.{arith}
 use lib.ListN.{length}
 use Rattle.lines.specs.Lines.{endLine}
-use Rattle.script.specs.Steps.{Lent, fresh, Printed, goes, over, stepOf, runFrom, runOf, scriptReplies}
+use Rattle.replies.specs.Replies.{Lent, Printed}
+use Rattle.script.specs.Steps.{fresh, goes, over, stepOf, runFrom, runOf, scriptReplies}
 use Rattle.script.specs.Steps.Laws.{after?, step-forward, run-over, run-next}
 
 -- from place i on, with the words l, the script s ends with the words m

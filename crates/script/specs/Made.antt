@@ -15,7 +15,8 @@ use Rattle.lines.specs.Lines.{endLine}
 use Rattle.store.specs.FreshWords.{fresh-goes}
 use Rattle.script.specs.declared.run.Ran.{Ran}
 use Rattle.script.specs.Answers.{afterOf, wroteOf, Behind, behind, laidOut}
-use Rattle.script.specs.Steps.{Lent, lent, fresh, Printed, goes, over, stepOf, onto, runFrom, runOf, scriptReplies}
+use Rattle.replies.specs.Replies.{Lent, lent, Printed}
+use Rattle.script.specs.Steps.{fresh, goes, over, stepOf, onto, runFrom, runOf, scriptReplies}
 use Rattle.script.specs.Steps.Laws.{after?, step-forward, run-over, run-next, run-enough}
 
 -- ---- the start

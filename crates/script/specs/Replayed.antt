@@ -2,7 +2,7 @@
 use mathlib.Core.Path.{_≡_, refl, sym, ap, _∙_}
 use mathlib.Core.Bool.{Bool, true, false}
 use mathlib.Core.List.{List, [], _∷_, _++_, append-assoc}
-use Prim.Native.Nat.{ℕ, suc, _+_, _-_, _<_, _≤_, min}
+use Prim.Native.Nat.{ℕ, _+_, _-_, _<_, _≤_, min}
 use native.Mathlib.Omega.{arith}
 use native.Mathlib.Numerals.{add-one}
 use lib.ListN.{length, getD, take, drop, length-append, length-take, length-drop}
@@ -13,8 +13,8 @@ use Rattle.lines.specs.Laid.Laws.{take-laid}
 use Rattle.lines.specs.Lines.{endLine}
 use Rattle.script.specs.declared.run.Ran.{Ran}
 use Rattle.script.specs.Answers.{afterOf, wroteOf}
-use Rattle.script.specs.Steps.{Lent, fresh, Printed, goes, over, stepOf, onto, runOf, scriptReplies}
-use Rattle.script.specs.Steps.Laws.{step-forward}
+use Rattle.replies.specs.Replies.{Lent, Printed}
+use Rattle.script.specs.Steps.{fresh, goes, over, stepOf, scriptReplies}
 use Rattle.script.specs.Made.{Step, Made, made-start, made-next, made-over, made-reply}
 
 -- a test that was answered

@@ -5,58 +5,21 @@ use mathlib.Core.List.{List, [], _∷_, _++_}
 use Prim.Native.Nat.{ℕ, zero, suc}
 use lib.Dec.{eqb, ltb}
 use lib.ListN.{length}
-use Rattle.arena.specs.Store.{dollar, nodeAt}
+use Rattle.arena.specs.Store.{dollar}
 use Rattle.layout.specs.Layout.{scratchWords}
-use Rattle.layout.specs.Decode.{storeOf}
 use Rattle.layout.specs.Encode.{wordsOf}
-use Rattle.store.specs.Calls.{Reply, refused, done, shown, context, count, state, holds, none, Left, zeros, asked}
-use Rattle.interning.specs.SingletonCall.{singletonCall}
-use Rattle.contexts.specs.MergeCall.{mergeCall}
-use Rattle.format.specs.Format.{Record, singleton, merge, show, Reading, found, ended, malformed, readAt}
-use Rattle.lines.specs.Lines.{contextLine, refusalLine, entriesLine, endLine}
+use Rattle.store.specs.Calls.{zeros}
+use Rattle.format.specs.Format.{Reading, found, ended, malformed, readAt}
+use Rattle.lines.specs.Lines.{refusalLine, endLine}
+use Rattle.replies.specs.Replies.{Lent, lent, Printed, callOf}
 
 -- bytes that a script may have
 abbrev pub mostBytes : ℕ
 mostBytes = 32768
 
--- the words that are lent to a script
-pub record Lent : Type 0 where
-  pub store : List ℕ
-  pub scratch : List ℕ
-
-abbrev pub lent : List ℕ → List ℕ → Lent
-lent w z = record { store = w; scratch = z }
-
--- the words that it starts from: "over a fresh store"
+-- the words that a script starts from: "over a fresh store"
 unfoldable pub fresh : Lent
 fresh = lent (wordsOf (dollar ∷ [])) zeros
-
--- ---- a record
-
--- the line of a reply; `shown` prints the bytes given
-unfoldable pub lineOf : List ℕ → Reply → List ℕ
-lineOf e (refused n) = refusalLine n
-lineOf e shown = e
-lineOf e (context c) = contextLine c
-lineOf e done = []
-lineOf e (count n) = []
-lineOf e (state r) = []
-lineOf e (holds b) = []
-lineOf e none = []
-
--- the bytes that were printed, and every lent word after that
-pub record Printed : Type 0 where
-  pub reply : List ℕ
-  pub words : Lent
-
-abbrev pub printed : List ℕ → Left → Printed
-printed e x = record { reply = lineOf e (x .reply); words = lent (x .store) (x .scratch) }
-
--- a record's call; `show` reads a known context of a sound store
-unfoldable pub callOf : Lent → Record → Printed
-callOf l (singleton p r) = printed [] (singletonCall (l .store) (l .scratch) p r)
-callOf l (merge a b m) = printed [] (mergeCall (l .store) (l .scratch) a b m)
-callOf l (show c) = printed (entriesLine (nodeAt (storeOf (l .store)) c)) (asked (l .store) (l .scratch) c shown)
 
 -- ---- a step
 

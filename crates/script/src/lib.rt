@@ -1,5 +1,4 @@
 // Scripts: records are run over lent words, one after the other, and answered by lines of bytes.
-mod calls;
 mod replay;
 mod run;
 

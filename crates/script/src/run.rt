@@ -1,10 +1,10 @@
 // One step of a script: the record at a place is read and run.
-use crate::calls::run_record;
 use format::Step;
 use format::decode;
 use layout::SCRATCH_WORDS;
 use lines::LINE_BYTES;
 use lines::inner::numbers::lay_number;
+use replies::inner::calls::run_record;
 use words::Refusal;
 ghost use mathlib.Core.Path.{_≡_};
 ghost use Prim.Native.Nat.{_≤_};
@@ -12,7 +12,8 @@ ghost use lib.ListN.{length};
 ghost use Rattle.lines.specs.Laid.{Wrote};
 ghost use Rattle.lines.specs.Lines.{refusalLine};
 ghost use Rattle.script.specs.Answers.{behind, laidOut, wroteOf};
-ghost use Rattle.script.specs.Steps.{lent, stepOf, wiped};
+ghost use Rattle.replies.specs.Replies.{lent};
+ghost use Rattle.script.specs.Steps.{stepOf, wiped};
 
 // Bytes that a script may have at most.
 pub const MOST_BYTES: usize = 32768;

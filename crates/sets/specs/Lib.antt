@@ -1,2 +1,16 @@
--- Config sets. To believe: Config.
+-- Config sets. To believe: Config, Lists, Layout, Sets, Checks, Words, Calls, Reasons.
 pub mod Config
+pub mod Lists
+pub mod Layout
+pub mod Sets
+pub mod Words
+pub mod Calls
+pub mod Reasons
+pub mod Chains
+pub mod Flags
+pub mod Listed
+pub mod Holds
+pub mod Sound
+pub mod Joined
+pub mod Kept
+pub mod Refusals

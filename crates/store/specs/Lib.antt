@@ -3,6 +3,7 @@ pub mod Judge
 pub mod Fresh
 pub mod Judgements
 pub mod Checks
+pub mod Reasons
 pub mod Calls
 pub mod Nested
 pub mod Admit

@@ -9,7 +9,7 @@ use script::MOST_BYTES;
 use script::Ran;
 ghost use Prim.Native.Nat.{_≤_};
 ghost use lib.ListN.{length};
-ghost use Rattle.script.specs.Steps.{lent};
+ghost use Rattle.replies.specs.Replies.{lent};
 ghost use Rattle.trace.specs.Traced.{Traced};
 
 // Writes the reply that stands at the start of `out`. Where that fails, it says so.

@@ -8,7 +8,7 @@ use lib.ListN.{length}
 use borrow.Author.Tests.{eqb-true, eq-eqb, ltb-true, lt-ltb, leb-true, le-leb}
 use Rattle.arena.specs.Store.{Node, end, dollar, push, Store, Found, at, nowhere, find}
 use Rattle.arena.specs.Soundness.{Rise, Full, Sound}
-use Rattle.cases.specs.Bools.{and-left, and-right, both-true, not-true}
+use Rattle.cases.specs.Bools.{and-left, and-right, both-true, is-false}
 use Rattle.arena.specs.Below.{NodeBelow, StoreBelow}
 use Rattle.layout.specs.Layout.{storeWords, mostContexts, stop}
 use Rattle.layout.specs.Decode.{storeOf}
@@ -158,7 +158,7 @@ pub words-sound : (s : Store) → GoodStore s → sound (wordsOf s) ≡ true
 words-sound s g = true-sound (wordsOf s) (words-length s) (encoded s g)
 
 pub sound-false : (w : List ℕ) → length w ≡ storeWords → (SoundWords w → ⊥) → sound w ≡ false
-sound-false w l n = not-true (sound w) (λ e. n (sound-true w l e))
+sound-false w l n = is-false (sound w) (λ e. n (sound-true w l e))
 
 pub fits-false : (s : Store) → (Fits s → ⊥) → fits s ≡ false
-fits-false s n = not-true (fits s) (λ e. n (fits-true s e))
+fits-false s n = is-false (fits s) (λ e. n (fits-true s e))

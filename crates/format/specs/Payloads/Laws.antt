@@ -15,7 +15,7 @@ use Rattle.format.specs.Table.{variable, notServed, entry, entryAccepts}
 
 -- the code's table
 unfoldable pub table : List ℕ
-table = 32768 ∷ 12 ∷ 9 ∷ 32769 ∷ 32792 ∷ 49152 ∷ 32768 ∷ 4 ∷ 32768 ∷ []
+table = notServed ∷ 12 ∷ 9 ∷ (notServed + 1) ∷ (notServed + 24) ∷ (notServed + variable) ∷ notServed ∷ 4 ∷ notServed ∷ []
 
 -- a length is no mark
 unfoldable small : Payload → Bool

@@ -9,6 +9,10 @@ use Rattle.lines.specs.Laid.{Wrote}
 use Rattle.lines.specs.Laid.Laws.{wrote-then, wrote-room}
 use Rattle.lines.specs.Lines.{lineBytes, spaced, numberLine}
 
+-- a number is short
+pub spaced-few : (n : ℕ) → n < 4294967296 → length (spaced n) ≤ 39000
+spaced-few n h = omega (arith, word-digits n h)
+
 -- a letter, a number, some more, a line end
 module _ (b : List ℕ) (sized : length b ≡ lineBytes) (letter n : ℕ) (small : n < 4294967296) {j₁ : ℕ} {u₁ : List ℕ} (v₁ : Wrote b 0 (letter ∷ []) j₁ u₁) where
   pub number-room : j₁ + length (spaced n) ≤ length u₁

@@ -1,15 +1,19 @@
--- A step goes on past its place, so that the steps of a script are enough to its end; and a run, one step at a time.
+-- A step goes on past its place, so that the steps of a script are enough to its end; it leaves the scratch 0; and a run, one step at a time.
 -- Nothing here has to be believed.
 use mathlib.Core.Path.{_≡_, refl, sym, ap, _∙_}
-use mathlib.Core.List.{List, _++_}
+use mathlib.Core.List.{List}
 use Prim.Native.Nat.{ℕ, zero, suc, _-_, _<_, _≤_}
 use native.Mathlib.Omega.{arith}
 use lib.ListN.{length}
-use borrow.Author.Tests.{lt-ltb, le-ltb}
+use borrow.Author.Tests.{eq-eqb, lt-ltb, le-ltb}
+use Rattle.layout.specs.Layout.{storeWords, scratchWords}
 use Rattle.cases.specs.Numbers.{below?}
+use Rattle.store.specs.Calls.{zeros}
 use Rattle.format.specs.Format.{Reading, found, ended, malformed, readAt}
 use Rattle.format.specs.Format.Laws.{read-forward}
-use Rattle.script.specs.Steps.{mostBytes, Lent, Printed, After, goes, over, readingStep, stepOf, onto, runFrom}
+use Rattle.replies.specs.Replies.{Lent, Printed}
+use Rattle.replies.specs.Zeros.{call-zero}
+use Rattle.script.specs.Steps.{mostBytes, After, goes, over, wiped, readingStep, stepOf, onto, runFrom}
 
 never : {X : Type 0} → _≡_ {A = ℕ} 0 1 → X
 never e = absurd (omega arith)
@@ -33,6 +37,26 @@ module _ (s : List ℕ) (i : ℕ) (l : Lent) where
       below? mostBytes (length s)
       (λ h. let q′ : over ≡ goes j = rw (lt-ltb mostBytes (length s) h, stepOf) at q in never (cc))
       (λ h. reading-forward (readAt s i) refl j (rw (le-ltb mostBytes (length s) h, stepOf) at q))
+
+  -- ---- "Scratch: .. all 0 on return"; of the right length
+
+  module _ (lw : length (l .store) ≡ storeWords) (lz : length (l .scratch) ≡ scratchWords) where
+    wiped-zero : wiped (l .scratch) ≡ zeros
+    unfolding wiped
+    wiped-zero = rw (eq-eqb (length (l .scratch)) scratchWords lz, wiped)
+
+    reading-zero : (r : Reading) → readingStep l r .printed .words .scratch ≡ zeros
+    unfolding readingStep
+    reading-zero (found x k) = call-zero l x lw lz
+    reading-zero ended = wiped-zero
+    reading-zero malformed = wiped-zero
+
+    pub step-zero : stepOf s i l .printed .words .scratch ≡ zeros
+    unfolding stepOf
+    step-zero =
+        below? mostBytes (length s)
+        (λ h. rw (lt-ltb mostBytes (length s) h, stepOf) wiped-zero)
+        (λ h. rw (le-ltb mostBytes (length s) h, stepOf) (reading-zero (readAt s i)))
 
   -- ---- one step of a run
 

@@ -9,7 +9,7 @@ use Rattle.stacks.specs.Beneath.{under, under-canon, mem-under, by-under
 use Rattle.stacks.specs.Merge.{isMark, mergeE, mergeT}
 use Rattle.stacks.specs.Merge.Laws.{mergeT-plain, mergeT-full, none-mergeT, mergeT-none, mark-mergeT, mergeT-mark}
 use Rattle.stacks.specs.Algebra.{mark?, under-merge, empty-merge, from-merge, canon-merge}
-use Rattle.cases.specs.Bools.{bool-stable, not-true}
+use Rattle.cases.specs.Bools.{bool-stable, is-false}
 use Rattle.stacks.specs.Rules.{Stacks, OnlyEmpty, beneath, Top, NoTop, FullMerge, WildcardMerge, swallowed, merged, MergeRule}
 
 -- ---- the rules leave no choice
@@ -35,7 +35,7 @@ is-swallowed (merged n e l r b) k = absurd (n k)
 
 -- x is a top state of both sides, or of one side at most; all but settled: a falsehood follows from each
 by-tops : (A B : Stacks) (x : ℕ) → (NoTop A x → ⊥) → (NoTop B x → ⊥) → (Top A x → Top B x → ⊥) → ⊥
-by-tops A B x a b both = a (λ σ. not-true (A (x ∷ σ)) (λ s. b (λ τ. not-true (B (x ∷ τ)) (λ t. both (σ, s) (τ, t)))))
+by-tops A B x a b both = a (λ σ. is-false (A (x ∷ σ)) (λ s. b (λ τ. is-false (B (x ∷ τ)) (λ t. both (σ, s) (τ, t)))))
 
 -- Any two results of one wildcard merge have the same stacks, whatever the sets are.
 pub wildcard-determined : {A B C : Stacks} → WildcardMerge A B C → (D : Stacks) → WildcardMerge A B D → (σ : List ℕ) → C σ ≡ D σ

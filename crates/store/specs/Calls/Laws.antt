@@ -1,14 +1,14 @@
 -- What is true of every call that goes through a list of checks: refused exactly when a check says so, and then with nothing changed;
 -- accepted only if no check holds; and two outcomes that satisfy one contract are equal. Nothing here has to be believed.
-use mathlib.Core.Path.{_≡_, refl, sym, ap, _∙_, subst}
+use mathlib.Core.Path.{_≡_, refl, sym, ap, _∙_}
 use mathlib.Core.Logic.{_↔_}
 use mathlib.Core.Bool.{Bool, true, false, not, _&&_}
-use mathlib.Core.List.{List, [], _∷_, _++_, append-nil}
+use mathlib.Core.List.{List, [], _∷_, append-nil}
 use Prim.Native.Nat.{ℕ, _<_}
 use lib.Dec.{eqb, ltb}
 use lib.ListN.{length}
-use borrow.Author.Tests.{eq-eqb, ne-eqb, eqb-true, ltb-true}
-use Rattle.cases.specs.Bools.{and-left, and-right}
+use borrow.Author.Tests.{eq-eqb, ne-eqb, eqb-true, eqb-false, ltb-true}
+use Rattle.cases.specs.Bools.{bool?, and-left, and-right}
 use Rattle.cases.specs.Numbers.{two, never}
 use Rattle.arena.specs.Store.{Store}
 use Rattle.layout.specs.Layout.{storeWords, scratchWords, count as contexts}
@@ -16,9 +16,9 @@ use Rattle.layout.specs.Encode.{wordsOf}
 use Rattle.layout.specs.Ceilings.{Fits}
 use Rattle.encoding.specs.Decide.{sound, fits}
 use Rattle.encoding.specs.Decide.Laws.{fits-true}
-use Rattle.store.specs.Checks.{Check, given, unless, Due, Clear}
-use Rattle.store.specs.Checks.Laws.{once, due-given, given-due, clear-of, by-unless}
-use Rattle.store.specs.Calls.{Reply, refused, context, Left, leaves, zeros, kept, refusal, wrongLength, unsoundStore, unknownContext, noRoom, made, Accepts, Keeps}
+use Rattle.store.specs.Checks.{Check, unless, Exactly, Reason, DueBy}
+use Rattle.store.specs.Checks.Laws.{Due, Clear, absent, once, unless-first, unless-next, due-given, given-due, clear-of, by-unless, Decides, decides-due}
+use Rattle.store.specs.Calls.{refused, context, Left, zeros, refusal, wrongLength, unsoundStore, unknownContext, noRoom, made, Accepts, Keeps}
 
 -- ---- two outcomes that satisfy one contract are equal
 
@@ -59,6 +59,13 @@ module _ (w z : List ℕ) (cs : List Check) (go : Left) (answers : (n : ℕ) →
     λ d. ap (λ (x : Left). x .reply) (sym (ap (λ (l : List Check). unless l (refusal w z) go) (append-nil cs)) ∙ due-given (refusal w z) go n cs [] d) ∙ refusal-reply w z n,
   )
 
+  -- the same in document 01's words, where the checks decide these reasons
+  pub refused-by : once cs ≡ true → (rs : List Reason) → Decides cs rs → (n : ℕ) → Exactly (unless cs (refusal w z) go .reply ≡ refused n) (DueBy n rs)
+  refused-by o rs d n =
+      let e = refused-exactly o n in
+      let f = decides-due n cs rs d in
+      (λ q. f .0 (e .0 q), λ q. e .1 (f .1 q))
+
   -- and changes nothing
   pub refused-keeps : (n : ℕ) → unless cs (refusal w z) go .reply ≡ refused n → Keeps w z n (unless cs (refusal w z) go)
   refused-keeps n e = by-unless (refusal w z) go (λ x. x .reply ≡ refused n → Keeps w z n x) by-refusal (λ h. absurd (answers n h)) cs e
@@ -70,6 +77,28 @@ module _ (w z : List ℕ) (cs : List Check) (go : Left) (answers : (n : ℕ) →
             untouched = λ k. refusal-scratch w z m .0 (q ∙ k);
             cleared = λ k. refusal-scratch w z m .1 (λ j. k (sym q ∙ j));
           }
+
+-- ---- "Scratch: .. all 0 on return": over slices of the right lengths, refused or not
+
+no-two : (w z : List ℕ) (cs : List Check) (go : Left) → absent 2 cs ≡ true → go .scratch ≡ zeros → unless cs (refusal w z) go .scratch ≡ zeros
+unfolding unless absent
+no-two w z [] go a h = h
+no-two w z (c ∷ cs) go a h =
+    bool? (c .holds)
+    (λ e.
+    let n : eqb (c .number) 2 ≡ false = not-two (eqb (c .number) 2) (and-left _ _ a) in
+    ap (λ (x : Left). x .scratch) (unless-first (refusal w z) go c cs e) ∙ refusal-scratch w z (c .number) .1 (eqb-false (c .number) 2 n))
+    (λ e. ap (λ (x : Left). x .scratch) (unless-next (refusal w z) go c cs e) ∙ no-two w z cs go (and-right (not (eqb (c .number) 2)) _ a) h)
+  where
+    not-two : (b : Bool) → not b ≡ true → b ≡ false
+    not-two true e = sym e
+    not-two false e = refl
+
+pub zero-after : (w z : List ℕ) (cs : List Check) (go : Left) → length w ≡ storeWords → length z ≡ scratchWords → absent 2 cs ≡ true → go .scratch ≡ zeros
+    → unless (wrongLength w z ∷ cs) (refusal w z) go .scratch ≡ zeros
+zero-after w z cs go lw lz a h =
+    let passed : wrongLength w z .holds ≡ false = rw (eq-eqb (length w) storeWords lw, eq-eqb (length z) scratchWords lz) in
+    ap (λ (x : Left). x .scratch) (unless-next (refusal w z) go (wrongLength w z) cs passed) ∙ no-two w z cs go a h
 
 -- ---- an accepted call
 

@@ -5,8 +5,22 @@ use mathlib.Core.List.{List, [], _∷_, _++_}
 use Prim.Native.Nat.{ℕ}
 use lib.Dec.{eqb}
 use borrow.Author.Tests.{eq-eqb, ne-eqb, eqb-true, eqb-false, not-true}
-use Rattle.cases.specs.Bools.{bool?, and-left, and-right}
-use Rattle.store.specs.Checks.{Check, unless, dueIf, Due, Clear}
+use Rattle.cases.specs.Bools.{bool?, is-false, and-left, and-right}
+use Rattle.store.specs.Checks.{Check, unless, Exactly, Reason, dueBy, DueBy}
+
+-- the reason for n holds, and none earlier in the list
+abbrev pub dueIf : Bool → Bool → Type 0 → Type 0
+dueIf true holds later = holds ≡ true
+dueIf false holds later = (holds ≡ false) × later
+
+abbrev pub Due : ℕ → List Check → Type 0
+Due n [] = ⊥
+Due n (c ∷ cs) = dueIf (eqb (c .number) n) (c .holds) (Due n cs)
+
+-- no reason holds
+abbrev pub Clear : List Check → Type 0
+Clear [] = Unit {0}
+Clear (c ∷ cs) = (c .holds ≡ false) × Clear cs
 
 -- no check of the list has the number n
 unfoldable pub absent : ℕ → List Check → Bool
@@ -89,3 +103,49 @@ by-unless refuse go P r g (c ∷ cs) =
     bool? (c .holds)
     (λ e. subst P (sym (unless-first refuse go c cs e)) (r (c .number)))
     (λ e. subst P (sym (unless-next refuse go c cs e)) (by-unless refuse go P r g cs))
+
+-- an outcome that is no refusal has passed all checks
+module _ {ℓ} {A : Type ℓ} (refuse : ℕ → A) (go : A) (G : A → Type 0) (none : (n : ℕ) → G (refuse n) → ⊥) where
+  pub passed-clear : (cs : List Check) → G (unless cs refuse go) → Clear cs
+  passed-clear [] g = tt
+  passed-clear (c ∷ cs) g =
+      bool? (c .holds)
+      (λ e. absurd (none (c .number) (subst G (unless-first refuse go c cs e) g)))
+      (λ e. (e, passed-clear cs (subst G (unless-next refuse go c cs e) g)))
+
+pub clear-passed {ℓ} : {A : Type ℓ} (refuse : ℕ → A) (go : A) (cs : List Check) → Clear cs → unless cs refuse go ≡ go
+unfolding unless
+clear-passed refuse go [] v = refl
+clear-passed refuse go (c ∷ cs) v = unless-next refuse go c cs (v .0) ∙ clear-passed refuse go cs (v .1)
+
+-- ---- checks and the reasons that they decide
+
+-- each check decides its reason, where no reason before it holds
+abbrev pub Decides : List Check → List Reason → Type 0
+Decides [] [] = Unit {0}
+Decides [] (r ∷ rs) = ⊥
+Decides (c ∷ cs) [] = ⊥
+Decides (c ∷ cs) (r ∷ rs) = (c .number ≡ r .number) × (c .holds ≡ true → r .because) × (c .holds ≡ false → r .because → ⊥) × (c .holds ≡ false → Decides cs rs)
+
+pub decides-due : (n : ℕ) (cs : List Check) (rs : List Reason) → Decides cs rs → Exactly (Due n cs) (DueBy n rs)
+decides-due n [] [] d = (λ x. x, λ x. x)
+decides-due n (c ∷ cs) (r ∷ rs) d =
+    let same : eqb (c .number) n ≡ eqb (r .number) n = ap (λ (m : ℕ). eqb m n) (d .0) in
+    bool? (eqb (c .number) n)
+    (λ e. (
+      λ q. subst (λ (b : Bool). dueBy b (r .because) (DueBy n rs)) (sym e ∙ same) (d .1 (subst (λ (b : Bool). dueIf b (c .holds) (Due n cs)) e q)),
+      λ q. subst (λ (b : Bool). dueIf b (c .holds) (Due n cs)) (sym e)
+          (holds-if (subst (λ (b : Bool). dueBy b (r .because) (DueBy n rs)) (sym same ∙ e) q)),
+    ))
+    (λ e. (
+      λ q.
+          let p = subst (λ (b : Bool). dueIf b (c .holds) (Due n cs)) e q in
+          subst (λ (b : Bool). dueBy b (r .because) (DueBy n rs)) (sym e ∙ same) (d .2 (p .0), decides-due n cs rs (d .3 (p .0)) .0 (p .1)),
+      λ q.
+          let p = subst (λ (b : Bool). dueBy b (r .because) (DueBy n rs)) (sym same ∙ e) q in
+          let f : c .holds ≡ false = is-false (c .holds) (λ t. p .0 (d .1 t)) in
+          subst (λ (b : Bool). dueIf b (c .holds) (Due n cs)) (sym e) (f, decides-due n cs rs (d .3 f) .1 (p .1)),
+    ))
+  where
+    holds-if : r .because → c .holds ≡ true
+    holds-if p = bool? (c .holds) (λ t. t) (λ f. absurd (d .2 f p))

@@ -6,7 +6,7 @@ use mathlib.Core.Bool.{false}
 use Prim.Native.Nat.{_-_}
 use lib.ListN.{length}
 use Rattle.lines.specs.Laid.Laws.{wrote-length}
-use Rattle.script.specs.Steps.{Lent, lent}
+use Rattle.replies.specs.Replies.{Lent, lent}
 use Rattle.script.specs.Made.{fresh-is, Step, step-is}
 use Rattle.trace.specs.Traced.Laws.{Stands, stands-start, stands-stopped, stands-forward, stands-next, stands-over}
 use Rattle.trace.proofs.run_script.Statement.{statement}

@@ -5,7 +5,8 @@ use mathlib.Core.List.{List, [], _++_}
 use Prim.Native.Nat.{ℕ, suc, _+_, _<_, _≤_}
 use lib.ListN.{length}
 use Rattle.script.specs.Answers.{afterOf}
-use Rattle.script.specs.Steps.{Lent, fresh, Printed, goes, over, stepOf, runFrom, runOf}
+use Rattle.replies.specs.Replies.{Lent, Printed}
+use Rattle.script.specs.Steps.{fresh, goes, over, stepOf, runOf}
 use Rattle.script.specs.Steps.Laws.{step-forward}
 use Rattle.script.specs.Made.{Step, Made, made-start, made-next, made-over, made-words}
 use Rattle.script.specs.declared.run.Ran.{Ran}

@@ -1,7 +1,7 @@
 -- The table's rule at a kind of the table; past it there is no kind.
 use borrow.Author.Needs.{needs}
 use native.Mathlib.Omega.{arith}
-use mathlib.Core.Path.{refl, sym, ap}
+use mathlib.Core.Path.{sym, ap}
 use Rattle.format.specs.Table.{entry}
 use Rattle.format.specs.Payloads.Laws.{table, table-entry, no-kind}
 use Rattle.format.proofs.payloads.entry_of.Statement.{statement}

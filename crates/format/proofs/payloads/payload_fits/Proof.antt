@@ -1,6 +1,6 @@
 -- The entry is a mark of no kind, the mark of any multiple of 4, or a length.
 use borrow.Author.Needs.{needs}
-use mathlib.Core.Path.{refl, sym}
+use mathlib.Core.Path.{sym}
 use Rattle.format.specs.Payloads.Laws.{kind-unknown, kind-variable, kind-fixed}
 use Rattle.format.proofs.payloads.payload_fits.Statement.{statement}
 use Rattle.format.proofs.payloads.payload_fits.Tie as tie

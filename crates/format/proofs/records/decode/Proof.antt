@@ -1,7 +1,7 @@
 -- The end, a header that is cut short, or a record.
 use borrow.Author.Needs.{needs}
 use native.Mathlib.Omega.{arith}
-use mathlib.Core.Path.{refl, sym, _∙_}
+use mathlib.Core.Path.{sym, _∙_}
 use Rattle.format.specs.Format.Laws.{read-end, read-short, read-header}
 use Rattle.format.proofs.records.decode.Statement.{statement}
 use Rattle.format.proofs.records.decode.Tie as tie

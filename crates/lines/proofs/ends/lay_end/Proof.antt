@@ -1,9 +1,8 @@
 -- `T`, word 0, word 1, the line end.
 use borrow.Author.Needs.{needs}
 use native.Mathlib.Omega.{arith}
-use Rattle.lines.specs.Decimal.Laws.{word-digits}
 use Rattle.lines.specs.Lines.{spaced, endLine}
-use Rattle.lines.specs.Lines.Laws.{number-room, more-room, end-room, headed-line}
+use Rattle.lines.specs.Lines.Laws.{spaced-few, number-room, more-room, end-room, headed-line}
 use Rattle.lines.proofs.ends.lay_end.Statement.{statement}
 use Rattle.lines.proofs.ends.lay_end.Tie as tie
 
@@ -17,10 +16,9 @@ put-spaced-requires-2 : tie.Need-put-spaced-requires-2
 put-spaced-requires-2 c κs =
     let args = c .before .before .before .before .before .before .before .before .before .args in
     let count-of = c .before .before .before .before .before .before .before .count-of in
-    let used-of = c .before .before .before .before .before .used-of in
     let put-byte = c .before .before .before .put-byte in
     more-room (args .out .now) (omega arith) 84 (count-of .result) (omega arith) (put-byte .ensures) (c .before .put-spaced .ensures) _
-    (omega (arith, word-digits (used-of .result) (omega arith)))
+    (spaced-few _ (omega arith))
 
 put-byte-requires-2 : tie.Need-put-byte-requires-2
 put-byte-requires-2 c κs =
@@ -32,7 +30,7 @@ put-byte-requires-2 c κs =
     omega (
       arith,
       end-room (args .out .now) (omega arith) 84 (count-of .result) (omega arith) (put-byte .ensures) (put-spaced .ensures)
-          (spaced (used-of .result)) (omega (arith, word-digits (used-of .result) (omega arith))) (c .before .put-spaced2 .ensures),
+          (spaced (used-of .result)) (spaced-few _ (omega arith)) (c .before .put-spaced2 .ensures),
     )
 
 returns : tie.Need-returns
@@ -45,7 +43,7 @@ returns c =
     let put-spaced = c .before .before .before .before .put-spaced in
     rw (← count-of .ensures, ← used-of .ensures)
     (headed-line (args .out .now) (omega arith) 84 (count-of .result) (omega arith) (put-byte .ensures) (put-spaced .ensures)
-    (spaced (used-of .result)) (omega (arith, word-digits (used-of .result) (omega arith))) (c .before .before .put-spaced2 .ensures) (c .put-byte2 .ensures))
+    (spaced (used-of .result)) (spaced-few _ (omega arith)) (c .before .before .put-spaced2 .ensures) (c .put-byte2 .ensures))
 
 pub lay-end-spec : {M : Type 1} → statement M
 lay-end-spec =

@@ -1,6 +1,5 @@
 -- By the answer of `replays`.
 use borrow.Author.Needs.{needs}
-use mathlib.Core.Path.{refl}
 use Rattle.script.specs.Replayed.{affirmed, denied}
 use Rattle.replay.specs.Sample.{same, other}
 use Rattle.replay.proofs.sample.difference.Statement.{statement}

@@ -1,7 +1,6 @@
 -- The end line is laid out and compared, and nothing is left after it.
 use borrow.Author.Needs.{needs}
 use native.Mathlib.Omega.{arith}
-use mathlib.Core.Path.{refl}
 use borrow.Author.Tests.{not-true, not-false}
 use Rattle.lines.specs.Lines.{endLine}
 use Rattle.lines.specs.Laid.Laws.{wrote-length}

@@ -5,7 +5,7 @@ use mathlib.Core.Path.{refl}
 use Prim.Native.Nat.{_-_}
 use borrow.Author.Tests.{not-true, not-false}
 use lib.ListN.{length}
-use Rattle.script.specs.Steps.{Lent, lent}
+use Rattle.replies.specs.Replies.{Lent, lent}
 use Rattle.script.specs.Steps.Laws.{step-forward}
 use Rattle.script.specs.Made.{fresh-is, Step, step-is}
 use Rattle.script.specs.Replayed.{affirmed, denied, Told, told-start, told-not, told-within, told-next, told-over, told-all}

@@ -1,7 +1,5 @@
 -- The scratch is wiped, and `R 9` laid out.
 use borrow.Author.Needs.{needs}
-use mathlib.Core.Path.{ap}
-use Prim.Native.Nat.{ℕ}
 use Rattle.lines.specs.Lines.{refusalLine}
 use Rattle.script.proofs.run.refuse.Statement.{statement}
 use Rattle.script.proofs.run.refuse.Tie as tie

@@ -6,7 +6,7 @@ use mathlib.Core.List.{[]}
 use Rattle.format.specs.Answers.{reading, callIn}
 use Rattle.lines.specs.Lines.{refusalLine}
 use Rattle.lines.specs.Laid.Laws.{wrote-none, wrote-length}
-use Rattle.script.specs.Steps.{lent}
+use Rattle.replies.specs.Replies.{lent}
 use Rattle.script.specs.Answers.Laws.{step-long, step-ended, step-malformed, step-found, ran-over, ran-next}
 use Rattle.script.proofs.run.run_step.Statement.{statement}
 use Rattle.script.proofs.run.run_step.Tie as tie

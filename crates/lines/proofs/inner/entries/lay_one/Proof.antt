@@ -1,6 +1,5 @@
 -- The heading, the entry, the line end.
 use borrow.Author.Needs.{needs}
-use mathlib.Core.Path.{refl}
 use native.Mathlib.Omega.{arith}
 use Rattle.lines.specs.Entries.{entryBytes}
 use Rattle.lines.specs.Entries.Laws.{entry-any}

@@ -1,6 +1,5 @@
 -- What is left to lay gives the whole: a turn lays the next entry.
 use native.Mathlib.Omega.{arith}
-use mathlib.Core.Path.{refl}
 use Prim.Native.Nat.{_+_, _-_, _≤_}
 use Rattle.lines.specs.Lines.{entriesBytes}
 use Rattle.lines.specs.Entries.{entryBytes, poolNode}

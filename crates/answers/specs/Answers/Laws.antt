@@ -1,0 +1,33 @@
+-- The struct of a refusal. Nothing here has to be believed.
+use mathlib.Core.Path.{_≡_}
+use Prim.Native.Nat.{ℕ}
+use Rattle.words.specs.Refusals.{number}
+use Rattle.words.specs.declared.refusals.Refusal.{Refusal}
+use Rattle.store.specs.Calls.{refused}
+use Rattle.answers.specs.declared.structs.Answer.{Answer}
+use Rattle.answers.specs.declared.structs.EntryAnswer.{EntryAnswer}
+use Rattle.sets.specs.Calls.{refused as notDone}
+use Rattle.answers.specs.SetAnswers.{setNumberOf, setValueOf, setAnswerOf}
+use Rattle.answers.specs.Answers.{numberOf, valueOf, foundOf, answerOf, entryOf}
+
+same-answers : (n m v u : ℕ) → n ≡ m → v ≡ u → _≡_ {A = Answer} (record { refusal = n; value = v }) (record { refusal = m; value = u })
+same-answers n m v u e g = rw (e, g)
+
+same-entries : (n m f g v u : ℕ) → n ≡ m → f ≡ g → v ≡ u
+    → _≡_ {A = EntryAnswer} (record { refusal = n; found = f; value = v }) (record { refusal = m; found = g; value = u })
+same-entries n m f g v u e h i = rw (e, h, i)
+
+-- a refusal's struct
+module _ (f : Refusal) where
+  pub refused-answer : (a : Answer) → a .refusal ≡ number f → a .value ≡ 0 → a ≡ answerOf (refused (number f))
+  unfolding numberOf valueOf
+  refused-answer a n v = same-answers (a .refusal) (number f) (a .value) 0 n v
+
+  pub refused-entry : (a : EntryAnswer) → a .refusal ≡ number f → a .found ≡ 0 → a .value ≡ 0 → a ≡ entryOf (refused (number f))
+  unfolding numberOf valueOf foundOf
+  refused-entry a n e v = same-entries (a .refusal) (number f) (a .found) 0 (a .value) 0 n e v
+
+-- the same of a call on a set
+pub refused-set-answer : (f : Refusal) (a : Answer) → a .refusal ≡ number f → a .value ≡ 0 → a ≡ setAnswerOf (notDone (number f))
+unfolding setNumberOf setValueOf
+refused-set-answer f a n v = same-answers (a .refusal) (number f) (a .value) 0 n v

@@ -1,0 +1,15 @@
+// Enums do not cross the border to C: structs and numbers that stand there for the answers of the calls.
+mod adding;
+mod stores;
+mod structs;
+
+pub use adding::added_answer;
+pub use adding::settled_number;
+pub use stores::count_answer;
+pub use stores::fresh_number;
+pub use stores::number_answer;
+pub use stores::parent_answer;
+pub use stores::state_answer;
+pub use stores::truth_answer;
+pub use structs::Answer;
+pub use structs::EntryAnswer;

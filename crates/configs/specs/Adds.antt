@@ -1,0 +1,169 @@
+-- `add` put together: by key inserted or joined, after the checks that come first. Nothing here has to be believed.
+use mathlib.Core.Path.{_≡_, refl, sym, ap, _∙_}
+use mathlib.Core.Bool.{Bool, true, false, not, _&&_}
+use mathlib.Core.List.{List, [], _∷_, _++_}
+use Prim.Native.Nat.{ℕ, _<_, _≤_}
+use lib.Dec.{leb, ltb}
+use lib.ListN.{length, replicate}
+use borrow.Author.Tests.{lt-ltb, le-ltb}
+use Rattle.words.specs.Refusals.{number}
+use Rattle.words.specs.declared.refusals.Refusal.{Refusal}
+use Rattle.arena.specs.Store.{Store, at, nowhere}
+use Rattle.arena.specs.Place.{mergeS}
+use Rattle.layout.specs.Layout.{count as contexts}
+use Rattle.layout.specs.Decode.{storeOf}
+use Rattle.layout.specs.Encode.{wordsOf}
+use Rattle.encoding.specs.Decide.{fits}
+use Rattle.encoding.specs.Decide.Laws.{true-fits}
+use Rattle.store.specs.Admit.{cleared}
+use Rattle.store.specs.Calls.{zeros}
+use Rattle.store.specs.declared.inner.admit.Admitted.the-variants.{Ready as ready, Refused}
+use Rattle.interning.specs.Live.{Live, ready-live}
+use Rattle.sets.specs.Config.{Config}
+use Rattle.sets.specs.Lists.{any}
+use Rattle.cases.specs.Bools.{bool?}
+use Rattle.sets.specs.Layout.{mostConfigs, configAt, configCount, flag}
+use Rattle.sets.specs.Sets.{Set, sameKey, held, withConfigs, joinedAll, Added, addTo}
+use Rattle.sets.specs.Sets.Laws.{held-new}
+use Rattle.sets.specs.Words.{setWords, setOf}
+use Rattle.sets.specs.Chains.{last, last-found, last-none}
+use Rattle.sets.specs.Listed.{at-any, none-any}
+use Rattle.sets.specs.Joined.{held-here}
+use Rattle.sets.specs.Holds.{Holds}
+use Rattle.sets.specs.Sound.{sound-held}
+use Rattle.store.specs.Checks.{Check, given, unless}
+use Rattle.store.specs.Checks.Laws.{unless-first, unless-next, clear-goes, due-given}
+use Rattle.sets.specs.Calls.{SetReply, refused, added, SetLeft, setLeft, refusal, lentLengths, lentChecks, addChecks, addCall}
+use Rattle.setcheck.specs.Keys.{hasKey, bucketOf, Sought}
+use Rattle.setcheck.specs.Opened.{OpenedSet}
+use Rattle.configs.specs.Adding.{insertCall, joinTo, joinCall, addRest, Addable, Joinable}
+
+-- ---- what is added, by the key
+
+module _ (s : Store) (S : Set) (x : Config) where
+  pub add-joined : (c : ℕ) → held x (S .configs) ≡ at c
+      → addTo s S x ≡ record { answer = 0; store = mergeS (not (S .full)) s c (x .context) .1; set = withConfigs S (joinedAll x (mergeS (not (S .full)) s c (x .context) .0) (S .configs)) }
+  unfolding addTo
+  add-joined c e = rw (e, addTo)
+
+  pub add-new : held x (S .configs) ≡ nowhere → addTo s S x ≡ record { answer = 1; store = s; set = withConfigs S (S .configs ++ (x ∷ [])) }
+  unfolding addTo
+  add-new e = rw (e, addTo)
+
+-- the two last checks, and what follows them, over what is added
+unfoldable pub addWith : List ℕ → List ℕ → Bool → Bool → Added → SetLeft
+addWith w v known full A =
+    unless (given 8 (not known && full) ∷ given 6 (not (fits (A .store))) ∷ []) (refusal w v zeros)
+    (setLeft (added (A .answer)) (wordsOf (A .store)) (setWords (A .set)) zeros)
+
+rest-with : (w v : List ℕ) (x : Config) → addRest w v x ≡ addWith w v (any (sameKey x) (setOf v .configs)) (leb mostConfigs (length (setOf v .configs))) (addTo (storeOf w) (setOf v) x)
+unfolding addRest addWith
+rest-with w v x = refl
+
+module _ {w v z : List ℕ} {x : Config} (a : Addable w v z x) where
+  live : Live w z
+  live = ready-live w z (a .ready .store)
+
+  pub add-holds : Holds v (setOf v)
+  add-holds = sound-held (contexts w) v (a .ready .sound) (a .ready .sized)
+
+  pub add-sought : (n : ℕ) → n ≡ configCount v → (b : ℕ) → (b ≡ bucketOf (Rattle.sets.specs.Sets.key x)) × (b < 256) → Sought v z n x b
+  add-sought n e b h = rw e (record {
+    sized = a .ready .sized;
+    lent = a .ready .store .index .sized;
+    few = a .ready .sound .counted;
+    chains = a .ready .keys;
+    bucket = h .0;
+    small = h .1;
+  })
+
+  module _ (n : ℕ) (e : n ≡ configCount v) where
+    -- the key is there
+    pub add-joinable : (i : ℕ) → at i ≡ last (hasKey v x) n → Joinable w v z i x
+    add-joinable i f = let r = last-found (hasKey v x) n i (sym f) in record { addable = a; here = rw e at (r .0); same = r .1 }
+
+    pub add-at : (i : ℕ) → at i ≡ last (hasKey v x) n → joinCall w v i x ≡ addRest w v x
+    unfolding addWith joinTo
+    add-at i f =
+        let j = add-joinable i f in
+        let known : any (sameKey x) (setOf v .configs) ≡ true = at-any (sameKey x) v (configCount v) i (j .here) (j .same) in
+        sym
+        (rest-with w v x
+        ∙ rw (known, add-joined (storeOf w) (setOf v) x (configAt v i .context) (held-here (a .ready .sound) x i (j .here) (j .same)))
+        (unless-next (refusal w v zeros) _ (given 8 _) _ refl))
+
+    -- the key is new
+    inserted : Added
+    inserted = record { answer = 1; store = storeOf w; set = withConfigs (setOf v) (setOf v .configs ++ (x ∷ [])) }
+
+    insert-with : setLeft (insertCall v x .0) w (insertCall v x .1) zeros ≡ addWith w v false (leb mostConfigs (length (setOf v .configs))) inserted
+    unfolding insertCall addWith inserted refusal unless
+    insert-with =
+        let cs : List Config = setOf v .configs in
+        bool? (leb mostConfigs (length cs))
+        (λ f. rw f)
+        (λ f. rw (f, true-fits (storeOf w) (live .good .fits), ← live .words))
+
+    pub add-last : nowhere ≡ last (hasKey v x) n → (r : SetReply) (u : List ℕ) → (r, u) ≡ insertCall v x → (y : List ℕ) → y ≡ replicate (length z) 0
+        → setLeft r w u y ≡ addRest w v x
+    unfolding inserted
+    add-last f r u q y ey =
+        let none : any (sameKey x) (setOf v .configs) ≡ false = none-any (sameKey x) v (configCount v) (rw e at (last-none (hasKey v x) n (sym f))) in
+        ap (λ (p : SetReply × List ℕ). setLeft (p .0) w (p .1) y) q
+        ∙ ap (setLeft (insertCall v x .0) w (insertCall v x .1)) (ey ∙ cleared z (a .ready .store .index .sized))
+        ∙ insert-with
+        ∙ sym (rest-with w v x ∙ rw (none, add-new (storeOf w) (setOf v) x (held-new x (setOf v .configs) none)))
+
+-- ---- the checks that come first
+
+module _ (w v z u : List ℕ) (x : Config) where
+  pub add-refused : (f : Refusal) → OpenedSet w v z (Refused f) u → setLeft (refused (number f)) w v u ≡ addCall w v z x
+  unfolding addCall addChecks lentChecks
+  add-refused f o = sym (due-given _ _ (number f) (lentChecks (lentLengths w v z) w v []) _ (o .0) ∙ o .1)
+
+  -- the checks 8 and 6, and what is left where none refuses
+  abbrev lastTwo : List Check
+  lastTwo =
+      given 8 (not (any (sameKey x) (setOf v .configs)) && leb mostConfigs (length (setOf v .configs)))
+      ∷ given 6 (not (fits (addTo (storeOf w) (setOf v) x .store))) ∷ []
+
+  abbrev go : SetLeft
+  go =
+      let A = addTo (storeOf w) (setOf v) x in
+      setLeft (added (A .answer)) (wordsOf (A .store)) (setWords (A .set)) zeros
+
+  -- they leave the scratch 0, whatever it was
+  rest-same : addRest w v x ≡ unless lastTwo (refusal w v z) go
+  unfolding addRest unless refusal
+  rest-same =
+      bool? (not (any (sameKey x) (setOf v .configs)) && leb mostConfigs (length (setOf v .configs)))
+      (λ e. rw e)
+      (λ e. rw e (bool? (fits (addTo (storeOf w) (setOf v) x .store)) (λ f. rw f) (λ f. rw f)))
+
+  module _ (o : OpenedSet w v z ready u) where
+    after-lent : addCall w v z x ≡ unless (given 7 (flag 8 v) ∷ given 4 (not (ltb (x .context) (contexts w))) ∷ lastTwo) (refusal w v z) go
+    unfolding addCall addChecks lentChecks
+    after-lent = clear-goes (refusal w v z) go (lentChecks (lentLengths w v z) w v []) _ (o .1)
+
+    zeroed : (y : List ℕ) → y ≡ replicate (length u) 0 → y ≡ zeros
+    zeroed y e = e ∙ cleared u (o .0 .store .index .sized)
+
+    pub add-closed : flag 8 v ≡ true → (y : List ℕ) → y ≡ replicate (length u) 0 → setLeft (refused 7) w v y ≡ addCall w v z x
+    unfolding refusal
+    add-closed e y ey = ap (setLeft (refused 7) w v) (zeroed y ey) ∙ sym (after-lent ∙ unless-first (refusal w v z) go (given 7 (flag 8 v)) _ e)
+
+    module _ (writable : flag 8 v ≡ false) where
+      after-seven : addCall w v z x ≡ unless (given 4 (not (ltb (x .context) (contexts w))) ∷ lastTwo) (refusal w v z) go
+      after-seven = after-lent ∙ unless-next (refusal w v z) go (given 7 (flag 8 v)) _ writable
+
+      pub add-unknown : contexts w ≤ x .context → (y : List ℕ) → y ≡ replicate (length u) 0 → setLeft (refused 4) w v y ≡ addCall w v z x
+      unfolding refusal
+      add-unknown h y ey =
+          ap (setLeft (refused 4) w v) (zeroed y ey)
+          ∙ sym (after-seven ∙ unless-first (refusal w v z) go (given 4 _) lastTwo (ap not (le-ltb (x .context) (contexts w) h)))
+
+      pub add-addable : x .context < contexts w → Addable w v u x
+      add-addable h = record { ready = o .0; known = h }
+
+      pub add-done : x .context < contexts w → addRest w v x ≡ addCall w v z x
+      add-done h = rest-same ∙ sym (after-seven ∙ unless-next (refusal w v z) go (given 4 _) lastTwo (ap not (lt-ltb (x .context) (contexts w) h)))

@@ -1,0 +1,167 @@
+-- A config joined to the one that has its key, once their contexts are merged. Nothing here has to be believed.
+use mathlib.Core.Path.{_≡_, sym, ap, _∙_}
+use mathlib.Core.Bool.{true, false, not}
+use mathlib.Core.List.{List, []}
+use Prim.Native.Nat.{ℕ, _<_}
+use native.Mathlib.Omega.{arith}
+use lib.ListN.{length, set, length-set}
+use lib.Seq.{getD-set-same, getD-set-other}
+use Rattle.words.specs.Refusals.{number}
+use Rattle.arena.specs.Store.{Store}
+use Rattle.layout.specs.Layout.{count as contexts}
+use Rattle.layout.specs.Encode.{wordsOf}
+use Rattle.encoding.specs.Decide.{fits}
+use Rattle.store.specs.Calls.{context, Left, leaves, zeros, refused as notMade}
+use Rattle.store.specs.Nested.{grown}
+use Rattle.interning.specs.Live.{Live, ready-live}
+use Rattle.sets.specs.Config.{Config}
+use Rattle.sets.specs.Lists.{any}
+use Rattle.cases.specs.Bools.{bool?}
+use Rattle.sets.specs.Layout.{mostConfigs, setWordsLength, configAt, configCount, flagWord}
+use Rattle.sets.specs.Sets.{Set, sameKey, withConfigs, joined, joinedAll, hasSemantic, dips}
+use Rattle.sets.specs.Words.{flagsOf, setWords, configsIn, setOf}
+use Rattle.sets.specs.Flags.{flags-are}
+use Rattle.sets.specs.Listed.{at-any}
+use Rattle.sets.specs.Holds.{Holds, held-words}
+use Rattle.sets.specs.Sound.{sound-held}
+use Rattle.sets.specs.Joined.{joined-length, semantic-joined, dips-joined, semantic-known, joined-configs}
+use Rattle.store.specs.Checks.{given, unless}
+use Rattle.store.specs.Checks.Laws.{unless-first, unless-next}
+use Rattle.sets.specs.Calls.{refused, added, setLeft, refusal}
+use Rattle.setcheck.specs.Flags.{joinedFlags, joined-four}
+use Rattle.configs.specs.Writes.{putConfig, put-length, put-after, put-flags, put-count, put-here, put-other, head-config, head-other}
+use Rattle.configs.specs.Adding.{Joinable, joinTo}
+
+-- ---- what the merge has left
+
+module _ (w : List ℕ) (P : ℕ × Store) where
+  pub grown-yes : fits (P .1) ≡ true → grown w P ≡ leaves (context (P .0)) (wordsOf (P .1)) zeros
+  unfolding grown
+  grown-yes e = rw (e, grown)
+
+  grown-no : fits (P .1) ≡ false → grown w P ≡ leaves (notMade 6) w zeros
+  unfolding grown
+  grown-no e = rw (e, grown)
+
+  module _ (w′ z′ : List ℕ) where
+    pub record Made (c : ℕ) : Type 0 where
+      pub room : fits (P .1) ≡ true
+      pub number : c ≡ P .0
+      pub store : w′ ≡ wordsOf (P .1)
+      pub scratch : z′ ≡ zeros
+
+    pub merge-made : (c : ℕ) → leaves (context c) w′ z′ ≡ grown w P → Made c
+    merge-made c e =
+        bool? (fits (P .1))
+        (λ f.
+        let q : leaves (context c) w′ z′ ≡ leaves (context (P .0)) (wordsOf (P .1)) zeros = e ∙ grown-yes f in
+        let n : context c ≡ context (P .0) = ap (λ (l : Left). l .reply) q in
+        record { room = f; number = cc; store = ap (λ (l : Left). l .store) q; scratch = ap (λ (l : Left). l .scratch) q })
+        (λ f.
+        let n : context c ≡ notMade 6 = ap (λ (l : Left). l .reply) (e ∙ grown-no f) in
+        let z : _≡_ {A = ℕ} 0 1 = cc in
+        absurd (omega arith))
+
+    pub record Unmade : Type 0 where
+      pub full : fits (P .1) ≡ false
+      pub store : w′ ≡ w
+      pub scratch : z′ ≡ zeros
+
+    pub merge-unmade : (n : ℕ) → leaves (notMade n) w′ z′ ≡ grown w P → Unmade
+    merge-unmade n e =
+        bool? (fits (P .1))
+        (λ f.
+        let q : notMade n ≡ context (P .0) = ap (λ (l : Left). l .reply) (e ∙ grown-yes f) in
+        let z : _≡_ {A = ℕ} 0 1 = cc in
+        absurd (omega arith))
+        (λ f.
+        let q : leaves (notMade n) w′ z′ ≡ leaves (notMade 6) w zeros = e ∙ grown-no f in
+        record { full = f; store = ap (λ (l : Left). l .store) q; scratch = ap (λ (l : Left). l .scratch) q })
+
+-- ---- the flags
+
+pub joined-flags : (S : Set) (x : Config) (c : ℕ) → any (sameKey x) (S .configs) ≡ true
+    → joinedFlags (flagsOf S) x ≡ flagsOf (withConfigs S (joinedAll x c (S .configs)))
+joined-flags S x c e =
+    ap (λ (n : ℕ). joinedFlags n x) (flags-are S)
+    ∙ joined-four (S .full) (hasSemantic (S .configs)) (dips (S .configs)) (S .closed) x
+    ∙ rw (
+      flags-are (withConfigs S (joinedAll x c (S .configs))),
+      semantic-joined x c (S .configs),
+      dips-joined x c (S .configs),
+      semantic-known x (S .configs) e,
+      e,
+    )
+
+-- ---- the words
+
+module _ {w v z : List ℕ} {i : ℕ} {x : Config} (j : Joinable w v z i x) where
+  abbrev S : Set
+  S = setOf v
+
+  holds : Holds v (setOf v)
+  holds = sound-held (contexts w) v (j .addable .ready .sound) (j .addable .ready .sized)
+
+  pub join-live : Live w z
+  join-live = ready-live w z (j .addable .ready .store)
+
+  pub join-known : configAt v i .context < contexts w
+  join-known = j .addable .ready .sound .known i (j .here)
+
+  pub join-place : i < mostConfigs
+  join-place = omega (arith, j .here, j .addable .ready .sound .counted)
+
+  known-key : any (sameKey x) (configsIn v (configCount v)) ≡ true
+  known-key = at-any (sameKey x) v (configCount v) i (j .here) (j .same)
+
+  module _ (c : ℕ) (y : Config) (ey : y ≡ joined x c (configAt v i)) (b : ℕ) (eb : b ≡ joinedFlags (flagWord v) x) where
+    put : List ℕ
+    put = putConfig v i y
+
+    put-sized : length put ≡ setWordsLength
+    unfolding put
+    put-sized = put-length v i y ∙ holds .sized
+
+    configs-now : configsIn (set put 1 b) (configCount v) ≡ joinedAll x c (configsIn v (configCount v))
+    unfolding put
+    configs-now =
+        joined-configs (j .addable .ready .sound) x i (j .here) (j .same) c (set put 1 b)
+        (head-config put 1 b (omega arith) i ∙ put-here v i y (holds .sized) join-place ∙ ey)
+        (λ k d. head-config put 1 b (omega arith) k ∙ put-other v i y k d)
+
+    join-held : Holds (set put 1 b) (withConfigs S (joinedAll x c (S .configs)))
+    unfolding put configCount flagWord
+    join-held =
+        let n : length (joinedAll x c (S .configs)) ≡ configCount v = joined-length x c (S .configs) ∙ sym (holds .count) in
+        record {
+          sized = length-set put 1 b ∙ put-sized;
+          few = omega (arith, holds .few, holds .count);
+          count = getD-set-other put 1 0 b 0 (omega arith) ∙ put-count v i y ∙ sym n;
+          flags = getD-set-same put 1 b 0 (omega (arith, put-sized)) ∙ eb ∙ ap (λ (m : ℕ). joinedFlags m x) (holds .flags) ∙ joined-flags S x c known-key;
+          configs = ap (configsIn (set put 1 b)) n ∙ configs-now;
+          unused = λ m p q.
+              head-other put 1 b (omega arith) m (omega arith) ∙ put-after v i y m (omega (arith, n, j .here)) ∙ holds .unused m (omega (arith, holds .count)) q;
+        }
+
+    pub join-words : set (putConfig v i y) 1 b ≡ setWords (withConfigs S (joinedAll x c (S .configs)))
+    unfolding put
+    join-words = held-words (set put 1 b) (withConfigs S (joinedAll x c (S .configs))) join-held
+
+  -- ---- the call
+
+  module _ (P : ℕ × Store) (w′ z′ : List ℕ) where
+    pub join-refused : (n : ℕ) → leaves (notMade n) w′ z′ ≡ grown w P → setLeft (refused 6) w′ v z′ ≡ joinTo w v x P
+    unfolding joinTo refusal
+    join-refused n e =
+        let m = merge-unmade w P w′ z′ n e in
+        rw (m .store, m .scratch) (sym (unless-first (refusal w v zeros) _ (given 6 (not (fits (P .1)))) [] (ap not (m .full))))
+
+    pub join-done : (c : ℕ) → leaves (context c) w′ z′ ≡ grown w P → (y : Config) → y ≡ joined x c (configAt v i) → (u : List ℕ) → u ≡ putConfig v i y
+        → (n : ℕ) → n ≡ flagWord u → (b : ℕ) → b ≡ joinedFlags n x → setLeft (added 0) w′ (set u 1 b) z′ ≡ joinTo w v x P
+    unfolding joinTo unless
+    join-done c e y ey u eu n en b eb =
+        let m = merge-made w P w′ z′ c e in
+        let f : b ≡ joinedFlags (flagWord v) x = eb ∙ ap (λ (k : ℕ). joinedFlags k x) (en ∙ ap flagWord eu ∙ put-flags v i y) in
+        rw (m .store, m .scratch, eu, join-words (P .0) y (rw (m .number) at ey) b f)
+        (sym (unless-next (refusal w v zeros) (setLeft (added 0) (wordsOf (P .1)) (setWords (withConfigs S (joinedAll x (P .0) (S .configs)))) zeros)
+        (given 6 (not (fits (P .1)))) [] (ap not (m .room))))

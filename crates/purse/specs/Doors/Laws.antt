@@ -1,0 +1,45 @@
+-- From what a call leaves to what its door leaves, and that a door's outcome is determined. Nothing here has to be believed.
+use mathlib.Core.Path.{_≡_, sym, ap, _∙_}
+use mathlib.Core.List.{List}
+use Prim.Native.Nat.{ℕ}
+use Rattle.store.specs.Calls.{Reply, Left, leaves, freshCall}
+use mathlib.Core.Bool.{Bool}
+use Rattle.sets.specs.Calls.{SetReply, SetLeft, setLeft, freshSetCall}
+use Rattle.answers.specs.SetAnswers.{setNumberOf}
+use Rattle.purse.specs.Doors.{OpensSet, Opens}
+use Rattle.answers.specs.Answers.{numberOf}
+
+-- a struct for the reply x beside the words that the call left
+pub door : {A : Type 0} (of : Reply → A) (a : A) (x : Reply) (w z : List ℕ) (l : Left) → a ≡ of x → leaves x w z ≡ l → Opens of l a w z
+door of a x w z l h e = record {
+  answer = h ∙ ap (λ (o : Left). of (o .reply)) e;
+  store = ap (λ (o : Left). o .store) e;
+  scratch = ap (λ (o : Left). o .scratch) e;
+}
+
+-- the same of a fresh store, where the number alone comes back
+pub fresh-door : (n : ℕ) (x : Reply) (v w : List ℕ) → n ≡ numberOf x → (x, v) ≡ freshCall w → (n ≡ numberOf (freshCall w .0)) × (v ≡ freshCall w .1)
+fresh-door n x v w h e = (h ∙ ap (λ (o : Reply × List ℕ). numberOf (o .0)) e, ap (λ (o : Reply × List ℕ). o .1) e)
+
+-- two outcomes of a door that satisfy its contract for the same input are equal: every field of the struct and every word
+pub door-determined : {A : Type 0} (of : Reply → A) (x : Left) (a b : A) (w z v y : List ℕ) → Opens of x a w z → Opens of x b v y → (a ≡ b) × (w ≡ v) × (z ≡ y)
+door-determined of x a b w z v y p q = (p .answer ∙ sym (q .answer), p .store ∙ sym (q .store), p .scratch ∙ sym (q .scratch))
+
+-- ---- the same of a call on a set
+
+pub set-door : {A : Type 0} (of : SetReply → A) (a : A) (x : SetReply) (w v z : List ℕ) (l : SetLeft) → a ≡ of x → setLeft x w v z ≡ l → OpensSet of l a w v z
+set-door of a x w v z l h e = record {
+  answer = h ∙ ap (λ (o : SetLeft). of (o .reply)) e;
+  store = ap (λ (o : SetLeft). o .store) e;
+  set = ap (λ (o : SetLeft). o .set) e;
+  scratch = ap (λ (o : SetLeft). o .scratch) e;
+}
+
+pub fresh-set-door : (n : ℕ) (x : SetReply) (u v : List ℕ) (f : Bool) → n ≡ setNumberOf x → (x, u) ≡ freshSetCall v f
+    → (n ≡ setNumberOf (freshSetCall v f .0)) × (u ≡ freshSetCall v f .1)
+fresh-set-door n x u v f h e = (h ∙ ap (λ (o : SetReply × List ℕ). setNumberOf (o .0)) e, ap (λ (o : SetReply × List ℕ). o .1) e)
+
+pub set-door-determined : {A : Type 0} (of : SetReply → A) (x : SetLeft) (a b : A) (w v z u t y : List ℕ) → OpensSet of x a w v z → OpensSet of x b u t y
+    → (a ≡ b) × (w ≡ u) × (v ≡ t) × (z ≡ y)
+set-door-determined of x a b w v z u t y p q =
+    (p .answer ∙ sym (q .answer), p .store ∙ sym (q .store), p .set ∙ sym (q .set), p .scratch ∙ sym (q .scratch))
