@@ -1,10 +1,13 @@
 // Enums do not cross the border to C: structs and numbers that stand there for the answers of the calls.
 mod adding;
+mod judging;
 mod stores;
 mod structs;
 
 pub use adding::added_answer;
 pub use adding::settled_number;
+pub use judging::alt_answer;
+pub use judging::decided_answer;
 pub use stores::count_answer;
 pub use stores::fresh_number;
 pub use stores::number_answer;

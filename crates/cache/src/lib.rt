@@ -9,7 +9,3 @@ pub use keep::clear_cache;
 pub use keep::remember;
 pub use lookup::Recall;
 pub use lookup::cached;
-pub use places::CACHE;
-pub use places::CACHE_COUNT;
-pub use places::CACHE_WORDS;
-pub use places::MOST_RESULTS;

@@ -23,18 +23,18 @@ use Rattle.sets.specs.Config.{Config}
 use Rattle.sets.specs.Lists.{any}
 use Rattle.cases.specs.Bools.{bool?}
 use Rattle.sets.specs.Layout.{mostConfigs, configAt, configCount, flag}
-use Rattle.sets.specs.Sets.{Set, sameKey, held, withConfigs, joinedAll, Added, addTo}
+use Rattle.sets.specs.Sets.{Set, sameKey, held, withConfigs, joinedAll, Addition, addTo}
 use Rattle.sets.specs.Sets.Laws.{held-new}
 use Rattle.sets.specs.Words.{setWords, setOf}
 use Rattle.sets.specs.Chains.{last, last-found, last-none}
 use Rattle.sets.specs.Listed.{at-any, none-any}
 use Rattle.sets.specs.Joined.{held-here}
-use Rattle.sets.specs.Holds.{Holds}
+use Rattle.sets.specs.Held.{HeldSet}
 use Rattle.sets.specs.Sound.{sound-held}
 use Rattle.store.specs.Checks.{Check, given, unless}
 use Rattle.store.specs.Checks.Laws.{unless-first, unless-next, clear-goes, due-given}
 use Rattle.sets.specs.Calls.{SetReply, refused, added, SetLeft, setLeft, refusal, lentLengths, lentChecks, addChecks, addCall}
-use Rattle.setcheck.specs.Keys.{hasKey, bucketOf, Sought}
+use Rattle.setcheck.specs.Keys.{hasKey, keyBucket, SoughtKey}
 use Rattle.setcheck.specs.Opened.{OpenedSet}
 use Rattle.configs.specs.Adding.{insertCall, joinTo, joinCall, addRest, Addable, Joinable}
 
@@ -51,7 +51,7 @@ module _ (s : Store) (S : Set) (x : Config) where
   add-new e = rw (e, addTo)
 
 -- the two last checks, and what follows them, over what is added
-unfoldable pub addWith : List ℕ → List ℕ → Bool → Bool → Added → SetLeft
+unfoldable pub addWith : List ℕ → List ℕ → Bool → Bool → Addition → SetLeft
 addWith w v known full A =
     unless (given 8 (not known && full) ∷ given 6 (not (fits (A .store))) ∷ []) (refusal w v zeros)
     (setLeft (added (A .answer)) (wordsOf (A .store)) (setWords (A .set)) zeros)
@@ -64,10 +64,10 @@ module _ {w v z : List ℕ} {x : Config} (a : Addable w v z x) where
   live : Live w z
   live = ready-live w z (a .ready .store)
 
-  pub add-holds : Holds v (setOf v)
+  pub add-holds : HeldSet v (setOf v)
   add-holds = sound-held (contexts w) v (a .ready .sound) (a .ready .sized)
 
-  pub add-sought : (n : ℕ) → n ≡ configCount v → (b : ℕ) → (b ≡ bucketOf (Rattle.sets.specs.Sets.key x)) × (b < 256) → Sought v z n x b
+  pub add-sought : (n : ℕ) → n ≡ configCount v → (b : ℕ) → (b ≡ keyBucket (Rattle.sets.specs.Sets.key x)) × (b < 256) → SoughtKey v z n x b
   add-sought n e b h = rw e (record {
     sized = a .ready .sized;
     lent = a .ready .store .index .sized;
@@ -93,7 +93,7 @@ module _ {w v z : List ℕ} {x : Config} (a : Addable w v z x) where
         (unless-next (refusal w v zeros) _ (given 8 _) _ refl))
 
     -- the key is new
-    inserted : Added
+    inserted : Addition
     inserted = record { answer = 1; store = storeOf w; set = withConfigs (setOf v) (setOf v .configs ++ (x ∷ [])) }
 
     insert-with : setLeft (insertCall v x .0) w (insertCall v x .1) zeros ≡ addWith w v false (leb mostConfigs (length (setOf v .configs))) inserted

@@ -10,7 +10,7 @@ use Rattle.sets.specs.Config.{Config}
 use Rattle.sets.specs.Layout.{mostConfigs, setWordsLength, configCount, flagWord, configAt}
 use Rattle.sets.specs.Sets.{Set, withConfigs}
 use Rattle.sets.specs.Words.{setWords, configsIn, setOf}
-use Rattle.sets.specs.Holds.{Holds, held-words}
+use Rattle.sets.specs.Held.{HeldSet, held-words}
 use Rattle.sets.specs.Listed.{configs-agree}
 use Rattle.store.specs.Checks.{given, unless}
 use Rattle.store.specs.Checks.Laws.{unless-first, unless-next}
@@ -23,7 +23,7 @@ use Rattle.configs.specs.Adding.{insertCall}
 abbrev lastPut : List ℕ → ℕ → Config → ℕ → List ℕ
 lastPut v n x b = set (set (putConfig v n x) 0 (n + 1)) 1 b
 
-module _ (v : List ℕ) (S : Set) (h : Holds v S) (x : Config) (n : ℕ) (e : n ≡ length (S .configs)) (few : n < mostConfigs) (b : ℕ) (f : b ≡ joinedFlags (flagWord v) x) where
+module _ (v : List ℕ) (S : Set) (h : HeldSet v S) (x : Config) (n : ℕ) (e : n ≡ length (S .configs)) (few : n < mostConfigs) (b : ℕ) (f : b ≡ joinedFlags (flagWord v) x) where
   one : List ℕ
   one = putConfig v n x
 
@@ -46,7 +46,7 @@ module _ (v : List ℕ) (S : Set) (h : Holds v S) (x : Config) (n : ℕ) (e : n 
       configs-agree (lastPut v n x b) v n (λ i l. config-same i ∙ put-other v n x i (omega arith)) ∙ ap (configsIn v) e ∙ h .configs in
       rw (last, before)
 
-  insert-held : Holds (lastPut v n x b) (withConfigs S (S .configs ++ (x ∷ [])))
+  insert-held : HeldSet (lastPut v n x b) (withConfigs S (S .configs ++ (x ∷ [])))
   unfolding one configCount flagWord
   insert-held =
       let l = one-sized in
@@ -62,7 +62,7 @@ module _ (v : List ℕ) (S : Set) (h : Holds v S) (x : Config) (n : ℕ) (e : n 
             ∙ put-after v n x j (omega (arith, more-length)) ∙ h .unused j (omega (arith, more-length)) q;
       }
 
-module _ (v : List ℕ) (h : Holds v (setOf v)) (x : Config) (n : ℕ) (e : n ≡ configCount v) where
+module _ (v : List ℕ) (h : HeldSet v (setOf v)) (x : Config) (n : ℕ) (e : n ≡ configCount v) where
   pub insert-full : mostConfigs ≤ n → (refused 8, v) ≡ insertCall v x
   unfolding insertCall
   insert-full f = sym (unless-first _ _ (given 8 _) [] (le-leb mostConfigs (length (setOf v .configs)) (omega (arith, h .count))))

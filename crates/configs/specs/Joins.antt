@@ -22,7 +22,7 @@ use Rattle.sets.specs.Sets.{Set, sameKey, withConfigs, joined, joinedAll, hasSe
 use Rattle.sets.specs.Words.{flagsOf, setWords, configsIn, setOf}
 use Rattle.sets.specs.Flags.{flags-are}
 use Rattle.sets.specs.Listed.{at-any}
-use Rattle.sets.specs.Holds.{Holds, held-words}
+use Rattle.sets.specs.Held.{HeldSet, held-words}
 use Rattle.sets.specs.Sound.{sound-held}
 use Rattle.sets.specs.Joined.{joined-length, semantic-joined, dips-joined, semantic-known, joined-configs}
 use Rattle.store.specs.Checks.{given, unless}
@@ -44,13 +44,13 @@ module _ (w : List ℕ) (P : ℕ × Store) where
   grown-no e = rw (e, grown)
 
   module _ (w′ z′ : List ℕ) where
-    pub record Made (c : ℕ) : Type 0 where
+    pub record MergeMade (c : ℕ) : Type 0 where
       pub room : fits (P .1) ≡ true
       pub number : c ≡ P .0
       pub store : w′ ≡ wordsOf (P .1)
       pub scratch : z′ ≡ zeros
 
-    pub merge-made : (c : ℕ) → leaves (context c) w′ z′ ≡ grown w P → Made c
+    pub merge-made : (c : ℕ) → leaves (context c) w′ z′ ≡ grown w P → MergeMade c
     merge-made c e =
         bool? (fits (P .1))
         (λ f.
@@ -62,12 +62,12 @@ module _ (w : List ℕ) (P : ℕ × Store) where
         let z : _≡_ {A = ℕ} 0 1 = cc in
         absurd (omega arith))
 
-    pub record Unmade : Type 0 where
+    pub record MergeUnmade : Type 0 where
       pub full : fits (P .1) ≡ false
       pub store : w′ ≡ w
       pub scratch : z′ ≡ zeros
 
-    pub merge-unmade : (n : ℕ) → leaves (notMade n) w′ z′ ≡ grown w P → Unmade
+    pub merge-unmade : (n : ℕ) → leaves (notMade n) w′ z′ ≡ grown w P → MergeUnmade
     merge-unmade n e =
         bool? (fits (P .1))
         (λ f.
@@ -99,7 +99,7 @@ module _ {w v z : List ℕ} {i : ℕ} {x : Config} (j : Joinable w v z i x) wher
   abbrev S : Set
   S = setOf v
 
-  holds : Holds v (setOf v)
+  holds : HeldSet v (setOf v)
   holds = sound-held (contexts w) v (j .addable .ready .sound) (j .addable .ready .sized)
 
   pub join-live : Live w z
@@ -129,7 +129,7 @@ module _ {w v z : List ℕ} {i : ℕ} {x : Config} (j : Joinable w v z i x) wher
         (head-config put 1 b (omega arith) i ∙ put-here v i y (holds .sized) join-place ∙ ey)
         (λ k d. head-config put 1 b (omega arith) k ∙ put-other v i y k d)
 
-    join-held : Holds (set put 1 b) (withConfigs S (joinedAll x c (S .configs)))
+    join-held : HeldSet (set put 1 b) (withConfigs S (joinedAll x c (S .configs)))
     unfolding put configCount flagWord
     join-held =
         let n : length (joinedAll x c (S .configs)) ≡ configCount v = joined-length x c (S .configs) ∙ sym (holds .count) in

@@ -32,17 +32,17 @@ use Rattle.sets.specs.Config.{Config}
 use Rattle.sets.specs.Lists.{any, all}
 use Rattle.cases.specs.Bools.{bool?, never-both}
 use Rattle.sets.specs.Layout.{mostConfigs, setWordsLength, configAt, configCount, flagWord, flag}
-use Rattle.sets.specs.Sets.{Set, emptySet, closedSet, key, sameKey, withConfigs, joined, joinedAll, Added, addTo}
+use Rattle.sets.specs.Sets.{Set, emptySet, closedSet, key, sameKey, withConfigs, joined, joinedAll, Addition, addTo}
 use Rattle.sets.specs.Sets.Laws.{key-of-same, same-of-key, other-key, key-joined, held-new}
 use Rattle.sets.specs.Words.{bit, setWords, configsIn, setOf, SoundSet, distinct, goodSet}
 use Rattle.sets.specs.Listed.{none-any, any-at, any-none, configs-length, configs-same, last-equal}
-use Rattle.sets.specs.Holds.{Holds, words-held, held-words, held-set}
+use Rattle.sets.specs.Held.{HeldSet, words-held, held-words, held-set}
 use Rattle.sets.specs.Sound.{sound-good, held-sound, good-few}
 use Rattle.sets.specs.Joined.{joinedIf, joined-here, joined-other, joined-length, joined-at, only-key, held-here}
 use Rattle.sets.specs.Kept.{good-inserted, good-joined}
 use Rattle.store.specs.Checks.{Exactly}
 use Rattle.store.specs.Checks.Laws.{Clear, passed-clear, clear-passed}
-use Rattle.sets.specs.Refusals.{Lent, clear-lent, lent-clear, refusal-reply, fresh-refused-leaves}
+use Rattle.sets.specs.Refusals.{SoundLent, clear-lent, lent-clear, refusal-reply, fresh-refused-leaves}
 use Rattle.sets.specs.Calls.{SetReply, refused, done, added, SetLeft, setLeft, refusal, lentLengths, lentChecks, addChecks, freshSetCall, addCall, closeCall}
 use Rattle.configs.specs.Joins.{grown-yes}
 use Rattle.configs.specs.Settles.{fresh-flags, fresh-goes}
@@ -65,7 +65,7 @@ module _ (w v z : List ℕ) (x : Config) (a : ℕ) (w′ v′ : List ℕ) (ok : 
   unfolding addCall
   passed = passed-clear (refusal w v z) _ (λ (l : SetLeft). l ≡ setLeft (added a) w′ v′ zeros) not-refused (addChecks w v z x) ok
 
-  pub lent : Lent w v z
+  pub lent : SoundLent w v z
   unfolding addChecks lentChecks
   lent = clear-lent w v z (passed .0, (passed .1 .0, (passed .1 .1 .0, tt)))
 
@@ -77,7 +77,7 @@ module _ (w v z : List ℕ) (x : Config) (a : ℕ) (w′ v′ : List ℕ) (ok : 
   unfolding addChecks lentChecks
   context-known = ltb-true (x .context) (contexts w) (not-false _ (passed .1 .1 .1 .1 .0))
 
-  after : Added
+  after : Addition
   after = addTo (storeOf w) (setOf v) x
 
   outcome : setLeft (added (after .answer)) (wordsOf (after .store)) (setWords (after .set)) zeros ≡ setLeft (added a) w′ v′ zeros
@@ -114,18 +114,18 @@ module _ (w v z : List ℕ) (x : Config) (a : ℕ) (w′ v′ : List ℕ) (ok : 
     unfolding addChecks lentChecks
     had-room = leb-false mostConfigs (length (setOf v .configs)) ((rw no-key at (passed .1 .1 .1 .1 .1 .0)))
 
-    inserted-held : Holds v′ (withConfigs (setOf v) (setOf v .configs ++ (x ∷ [])))
+    inserted-held : HeldSet v′ (withConfigs (setOf v) (setOf v .configs ++ (x ∷ [])))
     inserted-held =
-        let e : v′ ≡ setWords (withConfigs (setOf v) (setOf v .configs ++ (x ∷ []))) = is-set ∙ ap (λ (A : Added). setWords (A .set)) insertion in
+        let e : v′ ≡ setWords (withConfigs (setOf v) (setOf v .configs ++ (x ∷ []))) = is-set ∙ ap (λ (A : Addition). setWords (A .set)) insertion in
         rw e (words-held (withConfigs (setOf v) (setOf v .configs ++ (x ∷ []))) (good-few (contexts w) _ (good-inserted (contexts w) (setOf v) x good context-known no-key had-room)))
 
     pub inserted-answer : a ≡ 1
-    inserted-answer = is-answer ∙ ap (λ (A : Added). A .answer) insertion
+    inserted-answer = is-answer ∙ ap (λ (A : Addition). A .answer) insertion
 
     -- nothing was merged: the store is as it was
     pub inserted-store : w′ ≡ w
     inserted-store =
-        is-store ∙ ap (λ (A : Added). wordsOf (A .store)) insertion ∙ sym (decoded w (lent .store-length) (lent .store-sound) .1)
+        is-store ∙ ap (λ (A : Addition). wordsOf (A .store)) insertion ∙ sym (decoded w (lent .store-length) (lent .store-sound) .1)
 
     inserted-configs : configsIn v′ (suc (configCount v)) ≡ configsIn v (configCount v) ++ (x ∷ [])
     inserted-configs =
@@ -163,11 +163,11 @@ module _ (w v z : List ℕ) (x : Config) (a : ℕ) (w′ v′ : List ℕ) (ok : 
     joining = add-joined (storeOf w) (setOf v) x (configAt v i .context) (held-here (lent .set-sound) x i here same-key)
 
     pub merged-answer : a ≡ 0
-    merged-answer = is-answer ∙ ap (λ (A : Added). A .answer) joining
+    merged-answer = is-answer ∙ ap (λ (A : Addition). A .answer) joining
 
-    merged-held : Holds v′ (withConfigs (setOf v) (joinedAll x (mergedTo w v x i .0) (setOf v .configs)))
+    merged-held : HeldSet v′ (withConfigs (setOf v) (joinedAll x (mergedTo w v x i .0) (setOf v .configs)))
     merged-held =
-        let e : v′ ≡ setWords (withConfigs (setOf v) (joinedAll x (mergedTo w v x i .0) (setOf v .configs))) = is-set ∙ ap (λ (A : Added). setWords (A .set)) joining in
+        let e : v′ ≡ setWords (withConfigs (setOf v) (joinedAll x (mergedTo w v x i .0) (setOf v .configs))) = is-set ∙ ap (λ (A : Addition). setWords (A .set)) joining in
         rw e (words-held (withConfigs (setOf v) (joinedAll x (mergedTo w v x i .0) (setOf v .configs)))
         (omega (arith, joined-length x (mergedTo w v x i .0) (setOf v .configs), good-few (contexts w) (setOf v) good)))
 
@@ -202,7 +202,7 @@ module _ (w v z : List ℕ) (x : Config) (a : ℕ) (w′ v′ : List ℕ) (ok : 
     merged-call =
         let l = lent in
         let c : configAt v′ i .context ≡ mergedTo w v x i .0 = ap (λ (y : Config). y .context) config-now in
-        let s : w′ ≡ wordsOf (mergedTo w v x i .1) = is-store ∙ ap (λ (A : Added). wordsOf (A .store)) joining in
+        let s : w′ ≡ wordsOf (mergedTo w v x i .1) = is-store ∙ ap (λ (A : Addition). wordsOf (A .store)) joining in
         merge-nested w z (configAt v i .context) (x .context) (not (flag 1 v))
         ∙ sound-goes w z _ (l .store-length) (l .scratch-length) (l .store-sound)
         ∙ known-goes w (configAt v i .context) _ (l .set-sound .known i here)
@@ -283,7 +283,7 @@ module _ (w v z w′ v′ : List ℕ) (ok : closeCall w v z ≡ setLeft done w�
       omega arith)
       (lentChecks (lentLengths w v z) w v []) ok
 
-  closed-lent : Lent w v z
+  closed-lent : SoundLent w v z
   closed-lent = clear-lent w v z close-passed
 
   closed-outcome : setLeft done w (setWords (closedSet (setOf v))) zeros ≡ setLeft done w′ v′ zeros
@@ -297,7 +297,7 @@ module _ (w v z w′ v′ : List ℕ) (ok : closeCall w v z ≡ setLeft done w�
   unfolding goodSet
   closed-good = sound-good (contexts w) v (closed-lent .set-sound)
 
-  closed-held : Holds v′ (closedSet (setOf v))
+  closed-held : HeldSet v′ (closedSet (setOf v))
   closed-held =
       let e : v′ ≡ setWords (closedSet (setOf v)) = ap (λ (l : SetLeft). l .set) (sym closed-outcome) in
       rw e (words-held (closedSet (setOf v)) (good-few (contexts w) _ closed-good))
@@ -345,7 +345,7 @@ module _ (v : List ℕ) (f : Bool) (v′ : List ℕ) (ok : freshSetCall v f ≡ 
       let k : _≡_ {A = ℕ} 0 1 = cc in
       absurd (omega arith))
 
-  fresh-held : Holds v′ (emptySet f)
+  fresh-held : HeldSet v′ (emptySet f)
   fresh-held =
       let e : v′ ≡ setWords (emptySet f) = ap (λ (p : SetReply × List ℕ). p .1) (sym ok ∙ fresh-goes v fresh-length f) in
       rw e (words-held (emptySet f) (omega arith))

@@ -18,7 +18,7 @@ use Rattle.sets.specs.Layout.{firstConfig, setWordsLength, configCount, flagWor
 use Rattle.sets.specs.Sets.{Set, emptySet, closedSet, hasSemantic, dips}
 use Rattle.sets.specs.Words.{bit, flagsOf, setWords, configsIn, setOf}
 use Rattle.sets.specs.Flags.{flags-are, or-fourth}
-use Rattle.sets.specs.Holds.{Holds, held-words}
+use Rattle.sets.specs.Held.{HeldSet, held-words}
 use Rattle.sets.specs.Listed.{configs-agree}
 use Rattle.sets.specs.Sound.{sound-held}
 use Rattle.store.specs.Checks.{given, unless}
@@ -36,7 +36,7 @@ fresh-flags true = refl
 fresh-flags false = refl
 
 empty-held : (f : Bool) (v : List ℕ) → length v ≡ setWordsLength → configCount v ≡ 0 → flagWord v ≡ bit f 1
-    → ((j : ℕ) → firstConfig ≤ j → j < setWordsLength → getD v j 0 ≡ 0) → Holds v (emptySet f)
+    → ((j : ℕ) → firstConfig ≤ j → j < setWordsLength → getD v j 0 ≡ 0) → HeldSet v (emptySet f)
 unfolding configsIn
 empty-held f v l c w z = record {
   sized = l;
@@ -85,7 +85,7 @@ closed-flags S n e =
     flag-some n 8 1 (λ q. omega arith) ∙ rw (e, flags-are S, flags-are (closedSet S))
     (or-fourth (S .full) (hasSemantic (S .configs)) (dips (S .configs)) (S .closed))
 
-closed-held : (v : List ℕ) (S : Set) → Holds v S → (n : ℕ) → n ≡ flagWord v → Holds (set v 1 (withFlag n 8 1)) (closedSet S)
+closed-held : (v : List ℕ) (S : Set) → HeldSet v S → (n : ℕ) → n ≡ flagWord v → HeldSet (set v 1 (withFlag n 8 1)) (closedSet S)
 unfolding configCount flagWord
 closed-held v S h n e =
     let b : ℕ = withFlag n 8 1 in

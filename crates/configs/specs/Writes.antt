@@ -9,7 +9,7 @@ use lib.Seq.{getD-set-same, getD-set-other}
 use Rattle.cases.specs.Numbers.{three}
 use Rattle.sets.specs.Config.{Config}
 use Rattle.sets.specs.Layout.{mostConfigs, configWords, firstConfig, setWordsLength, fields, field, configAt, configCount, flagWord}
-use Rattle.sets.specs.Holds.{reads, fields-config, config-agree}
+use Rattle.sets.specs.Held.{reads, fields-config, config-agree}
 
 -- words put from place j + f on
 unfoldable pub putFields : List ℕ → ℕ → ℕ → List ℕ → List ℕ

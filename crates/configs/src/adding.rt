@@ -18,7 +18,7 @@ ghost use mathlib.Core.Path.{_≡_};
 ghost use Rattle.sets.specs.Calls.{addCall, setLeft};
 ghost use Rattle.setcheck.specs.Configs.{configOf};
 ghost use Rattle.configs.specs.Adding.{Addable, addRest, insertCall};
-ghost use Rattle.sets.specs.Holds.{Holds};
+ghost use Rattle.sets.specs.Held.{HeldSet};
 ghost use Rattle.sets.specs.Words.{setOf};
 ghost use Rattle.configs.specs.Replies.{addedReply};
 
@@ -31,7 +31,7 @@ pub enum Added {
 
 // Puts a config last, where the set has room. Refused 8.
 fn insert(set: &mut [u32], config: AtnConfig) -> Added
-    requires { ⌜ Holds (now set) (setOf (now set)) ⌝ }
+    requires { ⌜ HeldSet (now set) (setOf (now set)) ⌝ }
     ensures { λ r. ⌜ (addedReply r, now (set .exit)) ≡ insertCall (now (set .entry)) (configOf config) ⌝ }
 {
     let count = config_count(set) as usize;
@@ -61,7 +61,8 @@ fn add_known(store: &mut [u32], set: &mut [u32], scratch: &mut [u32], config: At
 
 // Adds a config. Refused 2, 1, 3, 7, 4, 8 or 6, in this order of checking.
 pub fn add(store: &mut [u32], set: &mut [u32], scratch: &mut [u32], config: AtnConfig) -> Added
-    ensures { λ r. ⌜ setLeft (addedReply r) (now (store .exit)) (now (set .exit)) (now (scratch .exit)) ≡ addCall (now (store .entry)) (now (set .entry)) (now (scratch .entry)) (configOf config) ⌝ }
+    ensures { λ r. ⌜ setLeft (addedReply r) (now (store .exit)) (now (set .exit)) (now (scratch .exit)) ≡ addCall (now (store .entry)) (now (set .entry)) (now (scratch .entry))
+        (configOf config) ⌝ }
 {
     let opened = open_set(store, set, scratch);
     if let Admitted::Refused(refusal) = opened {

@@ -1,8 +1,8 @@
 // A config joined to the one of the set that has its key.
 use crate::adding::Added;
 use crate::write::put_config;
-use interning::Numbered;
 use contexts::inner::merge_known;
+use interning::Numbered;
 use setcheck::AtnConfig;
 use setcheck::inner::flags::joined_flags;
 use setcheck::inner::places::FULL_CONTEXT;

@@ -20,7 +20,8 @@ use Rattle.contexts.specs.Ends.{ends, ends-inner, ends-le}
 use Rattle.contexts.specs.Merging.{Mergeable, Outcome}
 use Rattle.contexts.specs.WithRest.{Finishing, Extends, whole, array-size}
 use Rattle.contexts.specs.WithSingle.{Plain, plain-size, Lasting, withLast}
-use Rattle.contexts.specs.SideWords.{known-now, few-now, plain-now, array-long, array-ends, head-before, head-le, array-positive, later-known, later-node, later-array, later-plain, later-size, later-place, later-state, later-parent}
+use Rattle.contexts.specs.SideWords.{known-now, few-now, plain-now, array-long, array-ends, head-before, head-le, array-positive, later-known, later-node, later-array, later-plain}
+use Rattle.contexts.specs.SideWords.{later-size, later-place, later-state, later-parent}
 use Rattle.contexts.specs.SideKinds.{ArrayAndEntry, Fitting}
 use Rattle.contexts.specs.MergeStep.{Go, Heads, is-left, is-right, outcome, inner}
 use Rattle.interning.specs.declared.inner.intern.Made.{Made}

@@ -19,7 +19,8 @@ use Rattle.contexts.specs.StackAhead.{onto}
 use Rattle.contexts.specs.Ends.{ends, ends-inner}
 use Rattle.contexts.specs.Merging.{Mergeable, Outcome}
 use Rattle.contexts.specs.WithRest.{Finishing, Extends, whole, array-size}
-use Rattle.contexts.specs.SideWords.{known-now, few-now, array-long, array-ends, head-before, array-positive, later-known, later-node, later-array, later-size, later-place, later-state, later-parent}
+use Rattle.contexts.specs.SideWords.{known-now, few-now, array-long, array-ends, head-before, array-positive, later-known, later-node, later-array, later-size, later-place, later-state}
+use Rattle.contexts.specs.SideWords.{later-parent}
 use Rattle.contexts.specs.SideKinds.{TwoArrays, Fitting}
 use Rattle.contexts.specs.MergeStep.{Go, Heads, is-left, is-right, outcome, inner}
 use Rattle.interning.specs.declared.inner.intern.Made.{Made}

@@ -25,7 +25,8 @@ use Rattle.index.specs.Writes.{putEntry}
 use Rattle.cache.specs.Right.{CacheRight, right-frame}
 use Rattle.cache.specs.Cache.{cacheWord}
 use Rattle.interning.specs.Live.{Live}
-use Rattle.contexts.specs.EntriesFrom.{headState, headParent, rest, rest-next, rest-size, size-full, rest-rise, rest-below, head-rises, head-most, head-older, head-dollar, step-less, step-greater, step-equal}
+use Rattle.contexts.specs.EntriesFrom.{headState, headParent, rest, rest-next, rest-size, size-full, rest-rise, rest-below, head-rises, head-most, head-older, head-dollar, step-less}
+use Rattle.contexts.specs.EntriesFrom.{step-greater, step-equal}
 use Rattle.contexts.specs.StackAhead.{onto}
 use Rattle.contexts.specs.Ends.{ends}
 use Rattle.contexts.specs.StackEntry.{SameStack, Under, under-le, moved-entries, moved-under, moved-onto, push-length, push-between, push-under, push-onto, push-entries}

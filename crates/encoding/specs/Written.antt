@@ -13,7 +13,8 @@ use Rattle.layout.specs.Encode.{fill, putRecord, putCounts, putNode, written, w
 use Rattle.layout.specs.Ceilings.{Fits}
 use Rattle.encoding.specs.Filled.{filled-agree}
 use Rattle.encoding.specs.Held.{kindWord, firstWord, secondWord, inPool, size-inPool, Recorded, Held, Agree, records-agree}
-use Rattle.encoding.specs.Writes.{length-fill, length-putRecord, length-putCounts, length-putNode, length-blank, getD-blank, counts-other, counts-count, counts-used, record-other, record-kind, record-first, record-second, Outside, fill-other, fill-filled}
+use Rattle.encoding.specs.Writes.{length-fill, length-putRecord, length-putCounts, length-putNode, length-blank, getD-blank, counts-other, counts-count, counts-used, record-other}
+use Rattle.encoding.specs.Writes.{record-kind, record-first, record-second, Outside, fill-other, fill-filled}
 
 -- ---- one record more
 

@@ -10,12 +10,12 @@ use borrow.Author.Tests.{ltb-true, lt-ltb}
 use Rattle.cases.specs.Numbers.{two}
 use Rattle.sets.specs.Config.{Config}
 use Rattle.sets.specs.Lists.{any}
-use Rattle.groups.specs.Lists.{Some, Every, In, Rising, which}
+use Rattle.groups.specs.Lists.{Any, All, In, Rising, which}
 use Rattle.groups.specs.Lists.Laws.{some-map, some-in, in-some, every-map, every-in, in-every, rising-unique, some-made, made-some, every-made, made-every}
 use Rattle.groups.specs.Lists.Tests.{any-exact, all-exact, which-some, some-which}
 use Rattle.groups.specs.Groups.{Group, rising, altsOf, together, firsts, subset, groups}
 use Rattle.groups.specs.Answers.{many, conflictingAlts, allSubsetsConflict}
-use Rattle.groups.specs.Sentences.{Many, Union, Conflict}
+use Rattle.groups.specs.Sentences.{Many, ConflictUnion, Conflict}
 use Rattle.groups.specs.Rising.{rising-rises, in-rising, alts-rise, Passes, in-passing}
 use Rattle.groups.specs.Firsts.{together-kind, some-firsts, firsts-some, every-firsts, firsts-every}
 use Rattle.groups.specs.Rules.{Beside, true-beside, subset-exact, subset-rises, subset-same}
@@ -34,7 +34,7 @@ in-append a (x ∷ xs) ys =
       ⊎-elim (⊎-elim inl (λ n. inr (ih .1 (inl n)))) (λ n. inr (ih .1 (inr n))),
     )
 
-in-flat : (a : ℕ) (gs : List Group) → In a (flatMap (λ (g : Group). g .alternatives) gs) ↔ Some (λ g. In a (g .alternatives)) gs
+in-flat : (a : ℕ) (gs : List Group) → In a (flatMap (λ (g : Group). g .alternatives) gs) ↔ Any (λ g. In a (g .alternatives)) gs
 unfolding flatMap
 in-flat a [] = (λ m. m, λ m. m)
 in-flat a (g ∷ gs) =
@@ -45,7 +45,7 @@ in-flat a (g ∷ gs) =
     )
 
 -- `conflicting_alts` is the union of the groups with two or more, rising.
-pub conflicting-union : (cs : List Config) → Union (groups cs) (conflictingAlts cs)
+pub conflicting-union : (cs : List Config) → ConflictUnion (groups cs) (conflictingAlts cs)
 unfolding conflictingAlts
 conflicting-union cs =
     let gs = groups cs in
@@ -60,10 +60,10 @@ conflicting-union cs =
     }
 
 -- That leaves no choice.
-pub union-unique : (gs : List Group) (xs ys : List ℕ) → Union gs xs → Union gs ys → xs ≡ ys
+pub union-unique : (gs : List Group) (xs ys : List ℕ) → ConflictUnion gs xs → ConflictUnion gs ys → xs ≡ ys
 union-unique gs xs ys u v = rising-unique xs ys (u .rising) (v .rising) (λ a m. v .exact a .1 (u .exact a .0 m)) (λ a m. u .exact a .1 (v .exact a .0 m))
 
-pub conflicting-unique : (cs : List Config) (xs : List ℕ) → Union (groups cs) xs → xs ≡ conflictingAlts cs
+pub conflicting-unique : (cs : List Config) (xs : List ℕ) → ConflictUnion (groups cs) xs → xs ≡ conflictingAlts cs
 conflicting-unique cs xs u = union-unique (groups cs) xs (conflictingAlts cs) u (conflicting-union cs)
 
 -- ---- two or more alternatives are two that differ
@@ -81,7 +81,7 @@ of-two (x ∷ y ∷ xs) a b m k n = omega arith
 
 -- another config of the same subset has another alternative
 abbrev pub Rival : List Config → Config → Type 0
-Rival cs c = Some (λ d. Beside c d × (d .alternative ≡ c .alternative → ⊥)) cs
+Rival cs c = Any (λ d. Beside c d × (d .alternative ≡ c .alternative → ⊥)) cs
 
 pub rival-many : (cs : List Config) (c : Config) → In c cs → Rival cs c → Many (subset cs c)
 rival-many cs c m r =
@@ -103,7 +103,7 @@ many-alike : (cs : List Config) (c d : Config) → together c d ≡ true → Man
 many-alike cs c d h m = rw (subset-same cs c d h) m
 
 -- "some subset has two or more alternatives", of the configs and of the groups
-pub conflict-groups : (cs : List Config) → Some Many (groups cs) ↔ Conflict cs
+pub conflict-groups : (cs : List Config) → Any Many (groups cs) ↔ Conflict cs
 unfolding groups
 conflict-groups cs =
     let P : Config → Type 0 = λ c. Many (subset cs c) in (
@@ -120,12 +120,12 @@ any-many cs =
 -- ---- every subset has two or more
 
 -- `all_subsets_conflict` says yes exactly if every subset has two or more alternatives
-pub conflict-exact : (cs : List Config) → (allSubsetsConflict cs ≡ true) ↔ Every Many (groups cs)
+pub conflict-exact : (cs : List Config) → (allSubsetsConflict cs ≡ true) ↔ All Many (groups cs)
 unfolding allSubsetsConflict
 conflict-exact cs = all-exact many Many (groups cs) many-exact
 
 -- of the configs: each has a rival
-pub conflict-configs : (cs : List Config) → (allSubsetsConflict cs ≡ true) ↔ Every (Rival cs) cs
+pub conflict-configs : (cs : List Config) → (allSubsetsConflict cs ≡ true) ↔ All (Rival cs) cs
 unfolding groups
 conflict-configs cs =
     let P : Config → Type 0 = λ c. Many (subset cs c) in (

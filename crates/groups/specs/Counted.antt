@@ -12,13 +12,13 @@ use borrow.Author.Tests.{eqb-true, eq-eqb, not-true}
 use Rattle.cases.specs.Numbers.{three}
 use Rattle.sets.specs.Config.{Config}
 use Rattle.cases.specs.Bools.{never-both, is-false, bool-iff, both-true}
-use Rattle.groups.specs.Lists.{Some, Every, In, Pairwise, Rising, which}
+use Rattle.groups.specs.Lists.{Any, All, In, Pairwise, Rising, which}
 use Rattle.groups.specs.Lists.Laws.{some-map, some-in, in-some, every-map, every-in, in-every, every-of, pairwise-made, rising-unique}
 use Rattle.groups.specs.Lists.Tests.{and-true, pairwise-which}
 use Rattle.groups.specs.Groups.{Group, insert, rising, altsOf, together, firsts, subset, groups}
 use Rattle.groups.specs.Answers.{allSubsetsEqual}
 use Rattle.groups.specs.Rising.{by-insert, in-rising, alts-rise, in-alts, Passes, in-passing}
-use Rattle.groups.specs.Firsts.{Kind, together-kind, other, some-firsts, firsts-some, firsts-once}
+use Rattle.groups.specs.Firsts.{Likeness, together-kind, other, some-firsts, firsts-some, firsts-once}
 use Rattle.groups.specs.Rules.{subsets}
 use Rattle.groups.specs.Equal.{equal-exact}
 use Rattle.groups.specs.Parts.{which-weaker, firsts-other, sum, sum-same, parts}
@@ -41,7 +41,7 @@ pub true-alt : (c d : Config) → c .alternative ≡ d .alternative → oneAlt c
 unfolding oneAlt
 true-alt c d e = eq-eqb (c .alternative) (d .alternative) e
 
-pub alt-kind : Kind oneAlt
+pub alt-kind : Likeness oneAlt
 alt-kind = record {
   self = λ c. true-alt c c refl;
   swap = λ c d h. true-alt d c (sym (alt-true c d h));
@@ -56,7 +56,7 @@ pub true-triple : (c d : Config) → together c d ≡ true → oneAlt c d ≡ tr
 unfolding oneTriple
 true-triple c d e f = both-true (together c d) (oneAlt c d) e f
 
-pub triple-kind : Kind oneTriple
+pub triple-kind : Likeness oneTriple
 triple-kind = record {
   self = λ c. true-triple c c (together-kind .self c) (alt-kind .self c);
   swap = λ c d h. let p = triple-true c d h in true-triple d c (together-kind .swap c d (p .0)) (alt-kind .swap c d (p .1));
@@ -158,7 +158,8 @@ among (x ∷ xs) (y ∷ ys) v w f =
     let r = among xs ys (v .1) (w .1) (λ a m. ⊎-elim (λ d. let k = every-in (λ z. x < z) xs (v .0) a m in absurd (omega arith)) (λ n. n) (f a (inr m))) in
     (omega (arith, r .0), λ d. ap₂ _∷_ e (r .1 (omega arith))))
     (λ l.
-    let r = among (x ∷ xs) ys v (w .1) (λ a m. ⊎-elim (λ d. absurd (⊎-elim (λ b. omega arith) (λ n. let k = every-in (λ z. x < z) xs (v .0) a n in omega arith) m)) (λ n. n) (f a m)) in
+    let apart : (a : ℕ) → In a (x ∷ xs) → y ≡ a → ⊥ = λ a m d. ⊎-elim (λ b. omega arith) (λ n. let k = every-in (λ z. x < z) xs (v .0) a n in omega arith) m in
+    let r = among (x ∷ xs) ys v (w .1) (λ a m. ⊎-elim (λ d. absurd (apart a m d)) (λ n. n) (f a m)) in
     (omega (arith, r .0), λ d. absurd (omega (arith, r .0))))
 
 module _ (cs : List Config) where
@@ -174,7 +175,7 @@ module _ (cs : List Config) where
   among-all g m = among (g .alternatives) (altsOf cs) (every-in _ (groups cs) (subsets cs .rising) g m) (alts-rise cs) (in-all g m)
 
   -- an alternative of the set is in some group
-  all-in : (a : ℕ) → In a (altsOf cs) → Some (λ g. In a (g .alternatives)) (groups cs)
+  all-in : (a : ℕ) → In a (altsOf cs) → Any (λ g. In a (g .alternatives)) (groups cs)
   all-in a n =
       let s = some-in (λ c. c .alternative ≡ a) cs (in-alts a cs .0 n) in
       let c : Config = s .0 in
@@ -182,7 +183,7 @@ module _ (cs : List Config) where
       in-some (λ h. In a (h .alternatives)) (groups cs) (g .0) (g .1)
       (every-in _ (groups cs) (subsets cs .exact) (g .0) (g .1) a .1 (in-some _ cs c (s .1) ((sym (g .2 .0), sym (g .2 .1)), s .2)))
 
-  equal-whole : (allSubsetsEqual cs ≡ true) ↔ Every Whole (groups cs)
+  equal-whole : (allSubsetsEqual cs ≡ true) ↔ All Whole (groups cs)
   equal-whole =
       let gs = groups cs in (
         λ e. in-every Whole gs λ g m.
@@ -193,13 +194,13 @@ module _ (cs : List Config) where
       )
 
 -- groups of at most n alternatives have n each exactly if they have as many as can be
-total-full : (n : ℕ) (gs : List Group) → Every (λ g. length (g .alternatives) ≤ n) gs
-    → (total gs ≤ length gs * n) × (total gs ≡ length gs * n → Every (λ g. length (g .alternatives) ≡ n) gs)
+total-full : (n : ℕ) (gs : List Group) → All (λ g. length (g .alternatives) ≤ n) gs
+    → (total gs ≤ length gs * n) × (total gs ≡ length gs * n → All (λ g. length (g .alternatives) ≡ n) gs)
 unfolding total
 total-full n [] v = (omega arith, λ e. tt)
 total-full n (g ∷ gs) v = let ih = total-full n gs (v .1) in (omega (arith, v .0, ih .0), λ e. (omega (arith, v .0, ih .0), ih .1 (omega (arith, v .0, ih .0))))
 
-full-total : (n : ℕ) (gs : List Group) → Every (λ g. length (g .alternatives) ≡ n) gs → total gs ≡ length gs * n
+full-total : (n : ℕ) (gs : List Group) → All (λ g. length (g .alternatives) ≡ n) gs → total gs ≡ length gs * n
 unfolding total
 full-total n [] v = omega arith
 full-total n (g ∷ gs) v = omega (arith, v .0, full-total n gs (v .1))

@@ -14,7 +14,7 @@ use Rattle.groups.specs.Lists.Laws.{every-map}
 use Rattle.groups.specs.Lists.Tests.{and-true, or-true, true-or-left, any-exact, all-exact, every-passes}
 use Rattle.groups.specs.Groups.{firsts, groups, rising}
 use Rattle.groups.specs.Answers.{none, many, conflictingAlts, allSubsetsConflict, allSubsetsEqual, agree, singleViableAlt, uniqueAlt, stopped, justOne, verdict}
-use Rattle.groups.specs.Sentences.{Stopped, JustOne, Verdict}
+use Rattle.groups.specs.Sentences.{Stopped, JustOne, VerdictYes}
 use Rattle.groups.specs.Conflicts.{any-many}
 use Rattle.groups.specs.Equal.{in-exact}
 
@@ -38,7 +38,7 @@ not-false : (b : Bool) → b ≡ false → not b ≡ true
 not-false b e = rw e
 
 -- The verdict is document 01's.
-pub verdict-exact : (stops : List ℕ) (cs : List Config) → (verdict stops cs ≡ true) ↔ Verdict stops cs
+pub verdict-exact : (stops : List ℕ) (cs : List Config) → (verdict stops cs ≡ true) ↔ VerdictYes stops cs
 unfolding verdict
 verdict-exact stops cs =
     let m = any many (groups cs) in

@@ -7,14 +7,14 @@ use lib.Dec.{eqb}
 use borrow.Author.Tests.{eqb-true, eq-eqb, not-true}
 use Rattle.sets.specs.Config.{Config}
 use Rattle.cases.specs.Bools.{bool?, never-both, bool-iff, both-true}
-use Rattle.groups.specs.Lists.{Some, Every, Pairwise, Before, which}
+use Rattle.groups.specs.Lists.{Any, All, Pairwise, Before, which}
 use Rattle.groups.specs.Lists.Laws.{some-map, some-in, in-some, every-map, every-in, in-every, every-of}
 use Rattle.groups.specs.Lists.Tests.{and-true, every-which, pairwise-which, which-pass, which-some, some-which}
 use Rattle.groups.specs.Groups.{together, firsts}
 
 -- ---- being alike
 
-pub record Kind (alike : Config → Config → Bool) : Type 0 where
+pub record Likeness (alike : Config → Config → Bool) : Type 0 where
   pub self : (c : Config) → alike c c ≡ true
   pub swap : (c d : Config) → alike c d ≡ true → alike d c ≡ true
   pub next : (c d e : Config) → alike c d ≡ true → alike d e ≡ true → alike c e ≡ true
@@ -29,7 +29,7 @@ pub true-together : (c d : Config) → (c .state ≡ d .state) × (c .context �
 unfolding together
 true-together c d e = both-true (eqb (c .state) (d .state)) (eqb (c .context) (d .context)) (eq-eqb _ _ (e .0)) (eq-eqb _ _ (e .1))
 
-pub together-kind : Kind together
+pub together-kind : Likeness together
 together-kind = record {
   self = λ c. true-together c c (refl, refl);
   swap = λ c d h. let p = together-true c d h in true-together d c (sym (p .0), sym (p .1));
@@ -44,19 +44,19 @@ module _ (alike : Config → Config → Bool) where
   other c d = not (alike c d)
 
   -- they are among all
-  pub every-firsts : (P : Config → Type 0) (cs : List Config) → Every P cs → Every P (firsts alike cs)
+  pub every-firsts : (P : Config → Type 0) (cs : List Config) → All P cs → All P (firsts alike cs)
   unfolding firsts
   every-firsts P [] v = tt
   every-firsts P (c ∷ cs) v = (v .0, every-which (other c) P P (firsts alike cs) (λ x e p. p) (every-firsts P cs (v .1)))
 
-  pub firsts-some : (P : Config → Type 0) (cs : List Config) → Some P (firsts alike cs) → Some P cs
+  pub firsts-some : (P : Config → Type 0) (cs : List Config) → Any P (firsts alike cs) → Any P cs
   unfolding firsts
   firsts-some P [] m = m
   firsts-some P (c ∷ cs) m =
       ⊎-elim inl (λ n. inr (firsts-some P cs (some-map _ P (firsts alike cs) (λ x p. p .1) (which-some (other c) P (firsts alike cs) n)))) m
 
   -- what holds of a config holds of the first that is alike
-  pub some-firsts : (P : Config → Type 0) (cs : List Config) → ((c d : Config) → alike c d ≡ true → P d → P c) → Some P cs → Some P (firsts alike cs)
+  pub some-firsts : (P : Config → Type 0) (cs : List Config) → ((c d : Config) → alike c d ≡ true → P d → P c) → Any P cs → Any P (firsts alike cs)
   unfolding firsts
   some-firsts P (c ∷ cs) f (inl p) = inl p
   some-firsts P (c ∷ cs) f (inr m) =
@@ -74,13 +74,13 @@ module _ (alike : Config → Config → Bool) where
     pairwise-which (other c) (λ d e. alike d e ≡ false) (λ d e. alike d e ≡ false) (firsts alike cs) (λ d e p q h. h) (firsts-once cs),
   )
 
-  module _ (K : Kind alike) where
+  module _ (K : Likeness alike) where
     -- what holds of the first holds of those that are alike
-    pub firsts-every : (P : Config → Type 0) (cs : List Config) → ((c d : Config) → alike c d ≡ true → P c → P d) → Every P (firsts alike cs) → Every P cs
+    pub firsts-every : (P : Config → Type 0) (cs : List Config) → ((c d : Config) → alike c d ≡ true → P c → P d) → All P (firsts alike cs) → All P cs
     firsts-every P cs f v =
         in-every P cs λ c m.
-        let s = some-in (λ d. alike d c ≡ true) (firsts alike cs) (some-firsts (λ d. alike d c ≡ true) cs (λ d e h k. K .next d e c h k)
-        (in-some (λ d. alike d c ≡ true) cs c m (K .self c))) in
+        let Same : Config → Type 0 = λ d. alike d c ≡ true in
+        let s = some-in Same (firsts alike cs) (some-firsts Same cs (λ d e h k. K .next d e c h k) (in-some Same cs c m (K .self c))) in
         f (s .0) c (s .2) (every-in P (firsts alike cs) v (s .0) (s .1))
 
     -- those alike to two that are alike are the same

@@ -7,7 +7,7 @@ use Prim.Native.Nat.{ℕ}
 use Rattle.sets.specs.Lists.{any}
 use Rattle.cases.specs.Bools.{bool?, either, neither-left, neither-right}
 use Rattle.sets.specs.Config.{Config}
-use Rattle.groups.specs.Lists.{Some, which}
+use Rattle.groups.specs.Lists.{Any, which}
 use Rattle.groups.specs.Lists.Laws.{rising-unique}
 use Rattle.groups.specs.Lists.Tests.{which-yes, which-no}
 use Rattle.groups.specs.Groups.{insert, altsOf, firsts}
@@ -15,7 +15,7 @@ use Rattle.groups.specs.Rising.{rising-insert, in-insert, alts-rise, in-
 use Rattle.groups.specs.Firsts.{other}
 
 module _ {A : Type 0} where
-  pub some-last : (P : A → Type 0) (xs : List A) (y : A) → Some P (xs ++ (y ∷ [])) ↔ Some P (y ∷ xs)
+  pub some-last : (P : A → Type 0) (xs : List A) (y : A) → Any P (xs ++ (y ∷ [])) ↔ Any P (y ∷ xs)
   some-last P [] y = (λ m. m, λ m. m)
   some-last P (x ∷ xs) y =
       let ih = some-last P xs y in (

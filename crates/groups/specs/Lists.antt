@@ -9,23 +9,23 @@ use Prim.Native.Nat.{ℕ, _<_}
 
 module _ {A : Type 0} where
   -- some element is a P
-  abbrev pub Some : (A → Type 0) → List A → Type 0
-  Some P [] = ⊥
-  Some P (x ∷ xs) = P x ⊎ Some P xs
+  abbrev pub Any : (A → Type 0) → List A → Type 0
+  Any P [] = ⊥
+  Any P (x ∷ xs) = P x ⊎ Any P xs
 
   -- every element is a P
-  abbrev pub Every : (A → Type 0) → List A → Type 0
-  Every P [] = Unit {0}
-  Every P (x ∷ xs) = P x × Every P xs
+  abbrev pub All : (A → Type 0) → List A → Type 0
+  All P [] = Unit {0}
+  All P (x ∷ xs) = P x × All P xs
 
   -- a is one of the elements
   abbrev pub In : A → List A → Type 0
-  In a xs = Some (λ x. x ≡ a) xs
+  In a xs = Any (λ x. x ≡ a) xs
 
   -- R holds between each element and every later one
   abbrev pub Pairwise : (A → A → Type 0) → List A → Type 0
   Pairwise R [] = Unit {0}
-  Pairwise R (x ∷ xs) = Every (R x) xs × Pairwise R xs
+  Pairwise R (x ∷ xs) = All (R x) xs × Pairwise R xs
 
   -- read from the front, a P comes and no Q came before it
   abbrev pub Before : (A → Type 0) → (A → Type 0) → List A → Type 0

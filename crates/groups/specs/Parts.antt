@@ -8,11 +8,11 @@ use lib.ListN.{length}
 use borrow.Author.Tests.{not-true}
 use Rattle.sets.specs.Config.{Config}
 use Rattle.cases.specs.Bools.{bool?, never-both, is-false}
-use Rattle.groups.specs.Lists.{Every, which}
+use Rattle.groups.specs.Lists.{All, which}
 use Rattle.groups.specs.Lists.Laws.{every-map}
 use Rattle.groups.specs.Lists.Tests.{which-yes, which-no, which-pass}
 use Rattle.groups.specs.Groups.{firsts}
-use Rattle.groups.specs.Firsts.{Kind, other, same-kind}
+use Rattle.groups.specs.Firsts.{Likeness, other, same-kind}
 
 -- ---- tests one after the other
 
@@ -53,7 +53,7 @@ module _ {A : Type 0} where
 
 -- ---- without those of one kind
 
-module _ (alike : Config → Config → Bool) (K : Kind alike) where
+module _ (alike : Config → Config → Bool) (K : Likeness alike) where
   pub firsts-other : (c : Config) (cs : List Config) → firsts alike (which (other alike c) cs) ≡ which (other alike c) (firsts alike cs)
   unfolding firsts which
   firsts-other c [] = refl
@@ -76,7 +76,7 @@ unfoldable pub sum : (Config → ℕ) → List Config → ℕ
 sum f [] = 0
 sum f (c ∷ cs) = f c + sum f cs
 
-pub sum-same : (f g : Config → ℕ) (cs : List Config) → Every (λ c. f c ≡ g c) cs → sum f cs ≡ sum g cs
+pub sum-same : (f g : Config → ℕ) (cs : List Config) → All (λ c. f c ≡ g c) cs → sum f cs ≡ sum g cs
 unfolding sum
 sum-same f g [] v = refl
 sum-same f g (c ∷ cs) v = ap₂ _+_ (v .0) (sum-same f g cs (v .1))
@@ -88,7 +88,7 @@ sum-less f g (c ∷ cs) h = omega (arith, h c, sum-less f g cs h)
 
 -- ---- The configs of each kind, summed up, are all.
 
-module _ (alike : Config → Config → Bool) (K : Kind alike) where
+module _ (alike : Config → Config → Bool) (K : Likeness alike) where
   parts-of : (n : ℕ) (cs : List Config) → length cs ≤ n → sum (λ c. length (which (alike c) cs)) (firsts alike cs) ≡ length cs
   unfolding firsts sum
   parts-of zero [] h = refl

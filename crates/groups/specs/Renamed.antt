@@ -1,7 +1,7 @@
 -- Where two lists of configs differ in their context numbers only, as the same configs in two stores do, groups agree up to the contexts and
 -- all other answers are equal. Nothing here has to be believed.
 use mathlib.Core.Path.{_≡_, refl, sym, ap, ap₂, _∙_, subst₂}
-use mathlib.Core.Logic.{_↔_}
+use mathlib.Core.Logic.{inl, inr, ⊎-elim, _↔_}
 use mathlib.Core.Bool.{Bool, _&&_, _||_, not}
 use mathlib.Core.List.{List, [], _∷_, map, flatMap}
 use Prim.Native.Nat.{ℕ, suc}
@@ -11,11 +11,13 @@ use borrow.Author.Tests.{eqb-true, eq-eqb}
 use Rattle.sets.specs.Config.{Config}
 use Rattle.sets.specs.Lists.{any, all}
 use Rattle.cases.specs.Bools.{bool?, bool-iff}
-use Rattle.groups.specs.Lists.{which}
+use Rattle.groups.specs.Lists.{Any, All, which}
 use Rattle.groups.specs.Lists.Tests.{which-yes, which-no}
 use Rattle.groups.specs.Groups.{Group, rising, altsOf, together, firsts, subset, groups}
-use Rattle.groups.specs.Answers.{many, conflictingAlts, allSubsetsConflict, within, allSubsetsEqual, agree, smallest, singleViableAlt, uniqueAlt, stopped, justOne, verdict}
+use Rattle.groups.specs.Answers.{many, conflictingAlts, allSubsetsConflict, within, allSubsetsEqual, agree, singleViableAlt, uniqueAlt, stopped, justOne, verdict}
+use Rattle.groups.specs.Sentences.{Smallest, Viable}
 use Rattle.groups.specs.Firsts.{other}
+use Rattle.groups.specs.Single.{says-unique, viable-says}
 
 -- as many, and R holds between those that correspond
 pub data Each {A B : Type 0} (R : A → B → Type 0) : List A → List B → Type 0 where
@@ -56,6 +58,18 @@ module _ {A B : Type 0} {R : A → B → Type 0} where
   unfolding flatMap
   each-flat f g h none = refl
   each-flat f g h (more {xs = xs} r l) = rw (h _ _ r, each-flat f g h l)
+
+  each-some : (P : A → Type 0) (Q : B → Type 0) → ((x : A) (y : B) → R x y → P x ↔ Q y) → {xs : List A} {ys : List B} → Each R xs ys → Any P xs ↔ Any Q ys
+  each-some P Q h none = (λ m. m, λ m. m)
+  each-some P Q h (more r l) =
+      let ih = each-some P Q h l in
+      (⊎-elim (λ p. inl (h _ _ r .0 p)) (λ m. inr (ih .0 m)), ⊎-elim (λ p. inl (h _ _ r .1 p)) (λ m. inr (ih .1 m)))
+
+  each-every : (P : A → Type 0) (Q : B → Type 0) → ((x : A) (y : B) → R x y → P x ↔ Q y) → {xs : List A} {ys : List B} → Each R xs ys → All P xs ↔ All Q ys
+  each-every P Q h none = (λ v. v, λ v. v)
+  each-every P Q h (more r l) =
+      let ih = each-every P Q h l in
+      (λ v. (h _ _ r .0 (v .0), ih .0 (v .1)), λ v. (h _ _ r .1 (v .0), ih .1 (v .1)))
 
   pub each-length : {xs : List A} {ys : List B} → Each R xs ys → length xs ≡ length ys
   each-length none = refl
@@ -151,9 +165,18 @@ module _ (M : ℕ → ℕ → Type 0) (fair : OneToOne M) where
     unfolding allSubsetsEqual
     twin-equal = each-all _ _ (λ g h p. each-all (within g) (within h) (within-same g h p) twin-groups) twin-groups
 
+    same-smallest : (a : ℕ) (g h : Group) → TwinGroup M g h → Smallest a g ↔ Smallest a h
+    same-smallest a g h (twinGroup _ k p) = (λ q. q, λ q. q)
+
     pub twin-viable : singleViableAlt cs ≡ singleViableAlt ds
-    unfolding singleViableAlt smallest
-    twin-viable = ap agree (each-map smallest smallest (λ g h p. ap (λ (xs : List ℕ). getD xs 0 0) (alts-same g h p)) twin-groups)
+    twin-viable =
+        says-unique (Viable (groups ds)) (singleViableAlt cs) (singleViableAlt ds)
+        (λ a.
+        let i = each-some (Smallest a) (Smallest a) (same-smallest a) twin-groups in
+        let j = each-every (Smallest a) (Smallest a) (same-smallest a) twin-groups in
+        let v = viable-says cs a in
+        (λ e. let q = v .0 e in (i .0 (q .0), j .0 (q .1)), λ q. v .1 (i .1 (q .0), j .1 (q .1))))
+        (viable-says ds)
 
     pub twin-unique : uniqueAlt cs ≡ uniqueAlt ds
     unfolding uniqueAlt

@@ -9,7 +9,7 @@ use lib.ListN.{length, length-map}
 use borrow.Author.Tests.{lt-ltb, le-ltb, eq-eqb, ne-eqb}
 use Rattle.cases.specs.Numbers.{three}
 use Rattle.sets.specs.Config.{Config}
-use Rattle.groups.specs.Lists.{Some, Every, In, Rising, which}
+use Rattle.groups.specs.Lists.{Any, All, In, Rising, which}
 use Rattle.groups.specs.Lists.Laws.{every-map, some-made, made-some}
 use Rattle.groups.specs.Lists.Tests.{which-some, some-which}
 use Rattle.groups.specs.Groups.{insert, rising, altsOf}
@@ -37,10 +37,10 @@ by-insert Q a x xs f g h =
     (λ e. subst Q (sym (insert-equal a x xs e)) (g e))
     (λ l. subst Q (sym (insert-greater a x xs l)) (h l))
 
-every-insert : (P : ℕ → Type 0) (a : ℕ) (xs : List ℕ) → P a → Every P xs → Every P (insert a xs)
+every-insert : (P : ℕ → Type 0) (a : ℕ) (xs : List ℕ) → P a → All P xs → All P (insert a xs)
 unfolding insert
 every-insert P a [] p v = (p, tt)
-every-insert P a (x ∷ xs) p v = by-insert (Every P) a x xs (λ l. (p, v)) (λ e. v) (λ l. (v .0, every-insert P a xs p (v .1)))
+every-insert P a (x ∷ xs) p v = by-insert (All P) a x xs (λ l. (p, v)) (λ e. v) (λ l. (v .0, every-insert P a xs p (v .1)))
 
 pub rising-insert : (a : ℕ) (xs : List ℕ) → Rising xs → Rising (insert a xs)
 unfolding insert
@@ -69,12 +69,19 @@ insert-is b a (x ∷ xs) (inr m) =
 pub in-insert : (b a : ℕ) (xs : List ℕ) → In b (insert a xs) ↔ ((a ≡ b) ⊎ In b xs)
 in-insert b a xs = (insert-was b a xs, insert-is b a xs)
 
-insert-most : (a : ℕ) (xs : List ℕ) → length (insert a xs) ≤ suc (length xs)
+pub insert-most : (a : ℕ) (xs : List ℕ) → length (insert a xs) ≤ suc (length xs)
 unfolding insert
 insert-most a [] = omega arith
 insert-most a (x ∷ xs) =
     let h = insert-most a xs in
     by-insert (λ l. length l ≤ suc (suc (length xs))) a x xs (λ l. omega arith) (λ e. omega arith) (λ l. omega arith)
+
+pub insert-least : (a : ℕ) (xs : List ℕ) → length xs ≤ length (insert a xs)
+unfolding insert
+insert-least a [] = omega arith
+insert-least a (x ∷ xs) =
+    let h = insert-least a xs in
+    by-insert (λ l. suc (length xs) ≤ length l) a x xs (λ l. omega arith) (λ e. omega arith) (λ l. omega arith)
 
 -- ---- a list put in order
 
@@ -103,7 +110,7 @@ pub alts-rise : (cs : List Config) → Rising (altsOf cs)
 unfolding altsOf
 alts-rise cs = rising-rises (map (λ (c : Config). c .alternative) cs)
 
-pub in-alts : (a : ℕ) (cs : List Config) → In a (altsOf cs) ↔ Some (λ c. c .alternative ≡ a) cs
+pub in-alts : (a : ℕ) (cs : List Config) → In a (altsOf cs) ↔ Any (λ c. c .alternative ≡ a) cs
 unfolding altsOf
 in-alts a cs =
     let alt : Config → ℕ = λ c. c .alternative in
@@ -120,7 +127,7 @@ alts-most cs = omega (arith, rising-most (map (λ (c : Config). c .alternative) 
 abbrev pub Passes : (Config → Bool) → ℕ → Config → Type 0
 Passes t a c = (t c ≡ true) × (c .alternative ≡ a)
 
-pub in-passing : (t : Config → Bool) (a : ℕ) (cs : List Config) → In a (altsOf (which t cs)) ↔ Some (Passes t a) cs
+pub in-passing : (t : Config → Bool) (a : ℕ) (cs : List Config) → In a (altsOf (which t cs)) ↔ Any (Passes t a) cs
 in-passing t a cs = (
   λ m. which-some t (λ c. c .alternative ≡ a) cs (in-alts a (which t cs) .0 m),
   λ m. in-alts a (which t cs) .1 (some-which t (λ c. c .alternative ≡ a) cs m),

@@ -6,10 +6,10 @@ use mathlib.Core.List.{List}
 use Prim.Native.Nat.{ℕ}
 use Rattle.sets.specs.Config.{Config}
 use Rattle.cases.specs.Bools.{never-both}
-use Rattle.groups.specs.Lists.{Some, In, Before, Rising, which}
+use Rattle.groups.specs.Lists.{Any, In, Before, Rising, which}
 use Rattle.groups.specs.Lists.Laws.{some-map, some-in, in-some, every-in, every-of, pairwise-map, pairwise-both, before-map, before-asym, sorted-unique, rising-unique, some-made, made-some, every-made, pairwise-made}
 use Rattle.groups.specs.Groups.{Group, altsOf, together, firsts, subset, groups}
-use Rattle.groups.specs.Sentences.{At, For, Of, Subsets}
+use Rattle.groups.specs.Sentences.{AtPlace, For, Of, Subsets}
 use Rattle.groups.specs.Rising.{Passes, alts-rise, in-passing}
 use Rattle.groups.specs.Firsts.{together-kind, together-true, true-together, some-firsts, firsts-some, same-kind, firsts-once, firsts-order}
 
@@ -17,7 +17,7 @@ use Rattle.groups.specs.Firsts.{together-kind, together-true, true-toget
 
 -- d has the state and the context of c
 abbrev pub Beside : Config → Config → Type 0
-Beside c d = At (c .state) (c .context) d
+Beside c d = AtPlace (c .state) (c .context) d
 
 pub beside-true : (c d : Config) → together c d ≡ true → Beside c d
 beside-true c d e = let h = together-true c d e in (sym (h .0), sym (h .1))
@@ -26,7 +26,7 @@ pub true-beside : (c d : Config) → Beside c d → together c d ≡ true
 true-beside c d h = true-together c d (sym (h .0), sym (h .1))
 
 -- the alternatives of the subset that c falls into
-pub subset-exact : (cs : List Config) (c : Config) (a : ℕ) → In a (subset cs c .alternatives) ↔ Some (λ d. Beside c d × (d .alternative ≡ a)) cs
+pub subset-exact : (cs : List Config) (c : Config) (a : ℕ) → In a (subset cs c .alternatives) ↔ Any (λ d. Beside c d × (d .alternative ≡ a)) cs
 unfolding subset
 subset-exact cs c a =
     let r = in-passing (together c) a cs in (
@@ -49,13 +49,13 @@ subsets cs =
     let fs = firsts together cs in
     record {
       each = λ s k. (
-        λ m. firsts-some together (At s k) cs (made-some (subset cs) (For s k) fs m),
+        λ m. firsts-some together (AtPlace s k) cs (made-some (subset cs) (For s k) fs m),
         λ m. some-made (subset cs) (For s k) fs
-            (some-firsts together (At s k) cs (λ c d h p. let q = together-true c d h in (q .0 ∙ p .0, q .1 ∙ p .1)) m),
+            (some-firsts together (AtPlace s k) cs (λ c d h p. let q = together-true c d h in (q .0 ∙ p .0, q .1 ∙ p .1)) m),
       );
       once = pairwise-made (subset cs) (λ g h. For (g .state) (g .context) h → ⊥) fs
           (pairwise-map (λ c d. together c d ≡ false) (λ c d. Beside c d → ⊥) fs (λ c d n e. never-both (true-beside c d e) n) (firsts-once together cs));
-      exact = every-made (subset cs) (λ g. (a : ℕ) → In a (g .alternatives) ↔ Some (λ c. Of g c × (c .alternative ≡ a)) cs) fs (every-of _ fs (subset-exact cs));
+      exact = every-made (subset cs) (λ g. (a : ℕ) → In a (g .alternatives) ↔ Any (λ c. Of g c × (c .alternative ≡ a)) cs) fs (every-of _ fs (subset-exact cs));
       rising = every-made (subset cs) (λ g. Rising (g .alternatives)) fs (every-of _ fs (subset-rises cs));
       order = pairwise-made (subset cs) (λ g h. Before (Of g) (Of h) cs) fs
           (pairwise-map (λ c d. Before (λ e. together c e ≡ true) (λ e. together d e ≡ true) cs) (λ c d. Before (Beside c) (Beside d) cs) fs
@@ -64,7 +64,7 @@ subsets cs =
 
 -- the group of a config, with the alternatives that the configs beside it have
 pub group-of : (cs : List Config) (c : Config) → In c cs
-    → (g : Group) × In g (groups cs) × ((a : ℕ) → In a (g .alternatives) ↔ Some (λ d. Beside c d × (d .alternative ≡ a)) cs)
+    → (g : Group) × In g (groups cs) × ((a : ℕ) → In a (g .alternatives) ↔ Any (λ d. Beside c d × (d .alternative ≡ a)) cs)
 group-of cs c m =
     let s = some-in (For (c .state) (c .context)) (groups cs) (subsets cs .each (c .state) (c .context) .1 (in-some (Beside c) cs c m (refl, refl))) in
     let x = every-in _ (groups cs) (subsets cs .exact) (s .0) (s .1) in (
@@ -78,7 +78,7 @@ group-of cs c m =
 
 -- a config of a group
 pub config-of : (cs : List Config) (g : Group) → In g (groups cs)
-    → (c : Config) × In c cs × ((a : ℕ) → In a (g .alternatives) ↔ Some (λ d. Beside c d × (d .alternative ≡ a)) cs)
+    → (c : Config) × In c cs × ((a : ℕ) → In a (g .alternatives) ↔ Any (λ d. Beside c d × (d .alternative ≡ a)) cs)
 config-of cs g m =
     let s = some-in (Of g) cs (subsets cs .each (g .state) (g .context) .0 (in-some (For (g .state) (g .context)) (groups cs) g m (refl, refl))) in
     let x = every-in _ (groups cs) (subsets cs .exact) g m in (

@@ -5,13 +5,13 @@ use mathlib.Core.List.{List}
 use Prim.Native.Nat.{ℕ, _≤_}
 use lib.ListN.{length}
 use Rattle.sets.specs.Config.{Config}
-use Rattle.groups.specs.Lists.{Some, Every, In, Pairwise, Before, Rising}
+use Rattle.groups.specs.Lists.{Any, All, In, Pairwise, Before, Rising}
 use Rattle.groups.specs.Groups.{Group}
 use Rattle.groups.specs.Answers.{Answer, only}
 
 -- the config is in state s with context k
-abbrev pub At : ℕ → ℕ → Config → Type 0
-At s k c = (c .state ≡ s) × (c .context ≡ k)
+abbrev pub AtPlace : ℕ → ℕ → Config → Type 0
+AtPlace s k c = (c .state ≡ s) × (c .context ≡ k)
 
 -- the group is that of state s and context k
 abbrev pub For : ℕ → ℕ → Group → Type 0
@@ -19,18 +19,18 @@ For s k g = (g .state ≡ s) × (g .context ≡ k)
 
 -- the config is one of the group's
 abbrev pub Of : Group → Config → Type 0
-Of g c = At (g .state) (g .context) c
+Of g c = AtPlace (g .state) (g .context) c
 
 -- "Subsets: configs grouped by state and context, in order of each group's first config, alternatives rising"
 pub record Subsets (cs : List Config) (gs : List Group) : Type 0 where
   -- a state and a context have a group exactly if some config has both
-  pub each : (s k : ℕ) → Some (For s k) gs ↔ Some (At s k) cs
+  pub each : (s k : ℕ) → Any (For s k) gs ↔ Any (AtPlace s k) cs
   -- and one only
   pub once : Pairwise (λ g h. For (g .state) (g .context) h → ⊥) gs
   -- an alternative is in a group exactly if some config has state, context and it
-  pub exact : Every (λ g. (a : ℕ) → In a (g .alternatives) ↔ Some (λ c. Of g c × (c .alternative ≡ a)) cs) gs
+  pub exact : All (λ g. (a : ℕ) → In a (g .alternatives) ↔ Any (λ c. Of g c × (c .alternative ≡ a)) cs) gs
   -- alternatives rise
-  pub rising : Every (λ g. Rising (g .alternatives)) gs
+  pub rising : All (λ g. Rising (g .alternatives)) gs
   -- a group stands before another if a config of it comes before every config of the other
   pub order : Pairwise (λ g h. Before (Of g) (Of h) cs) gs
 
@@ -39,25 +39,25 @@ abbrev pub Many : Group → Type 0
 Many g = 2 ≤ length (g .alternatives)
 
 -- "the union of the groups with two or more .. alternatives rising"
-pub record Union (gs : List Group) (xs : List ℕ) : Type 0 where
-  pub exact : (a : ℕ) → In a xs ↔ Some (λ g. Many g × In a (g .alternatives)) gs
+pub record ConflictUnion (gs : List Group) (xs : List ℕ) : Type 0 where
+  pub exact : (a : ℕ) → In a xs ↔ Any (λ g. Many g × In a (g .alternatives)) gs
   pub rising : Rising xs
 
 -- any two subsets have the same alternatives
 abbrev pub AllEqual : List Group → Type 0
-AllEqual gs = Every (λ g. Every (λ h. g .alternatives ≡ h .alternatives) gs) gs
+AllEqual gs = All (λ g. All (λ h. g .alternatives ≡ h .alternatives) gs) gs
 
 -- a is the smallest alternative of a group
 abbrev pub Smallest : ℕ → Group → Type 0
-Smallest a g = In a (g .alternatives) × Every (λ b. a ≤ b) (g .alternatives)
+Smallest a g = In a (g .alternatives) × All (λ b. a ≤ b) (g .alternatives)
 
 -- a is the smallest alternative of every group, and there is one
 abbrev pub Viable : List Group → ℕ → Type 0
-Viable gs a = Some (Smallest a) gs × Every (Smallest a) gs
+Viable gs a = Any (Smallest a) gs × All (Smallest a) gs
 
 -- every config has alternative a, and there is one
 abbrev pub Unique : List Config → ℕ → Type 0
-Unique cs a = Some (λ c. c .alternative ≡ a) cs × Every (λ c. c .alternative ≡ a) cs
+Unique cs a = Any (λ c. c .alternative ≡ a) cs × All (λ c. c .alternative ≡ a) cs
 
 -- the answer is `only a` exactly for the a that is meant; so it is `none` where there is no such a
 abbrev pub Says : (ℕ → Type 0) → Answer → Type 0
@@ -67,17 +67,17 @@ Says P r = (a : ℕ) → (r ≡ only a) ↔ P a
 
 -- "every config is in a listed stop state"
 abbrev pub Stopped : List ℕ → List Config → Type 0
-Stopped stops cs = Every (λ c. In (c .state) stops) cs
+Stopped stops cs = All (λ c. In (c .state) stops) cs
 
 -- "some subset has two or more alternatives": two configs of one state and context differ in their alternatives
 abbrev pub Conflict : List Config → Type 0
-Conflict cs = Some (λ c. Some (λ d. At (c .state) (c .context) d × (d .alternative ≡ c .alternative → ⊥)) cs) cs
+Conflict cs = Any (λ c. Any (λ d. AtPlace (c .state) (c .context) d × (d .alternative ≡ c .alternative → ⊥)) cs) cs
 
 -- the state of c has just one alternative: every config in it has that of c
 abbrev pub JustOne : List Config → Config → Type 0
-JustOne cs c = Every (λ d. d .state ≡ c .state → d .alternative ≡ c .alternative) cs
+JustOne cs c = All (λ d. d .state ≡ c .state → d .alternative ≡ c .alternative) cs
 
 -- "yes if every config is in a listed stop state, an empty set included. Else yes exactly if some subset has two or more alternatives
 -- and no state has just one."
-abbrev pub Verdict : List ℕ → List Config → Type 0
-Verdict stops cs = Stopped stops cs ⊎ (Conflict cs × (Some (JustOne cs) cs → ⊥))
+abbrev pub VerdictYes : List ℕ → List Config → Type 0
+VerdictYes stops cs = Stopped stops cs ⊎ (Conflict cs × (Any (JustOne cs) cs → ⊥))

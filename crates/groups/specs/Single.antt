@@ -11,7 +11,7 @@ use borrow.Author.Tests.{eqb-true, eq-eqb}
 use Rattle.sets.specs.Config.{Config}
 use Rattle.sets.specs.Lists.{all}
 use Rattle.cases.specs.Bools.{bool?}
-use Rattle.groups.specs.Lists.{Some, Every, In, Rising}
+use Rattle.groups.specs.Lists.{Any, All, In, Rising}
 use Rattle.groups.specs.Lists.Laws.{some-map, some-in, in-some, every-in, in-every, every-map, every-made, made-every, some-made, made-some}
 use Rattle.groups.specs.Lists.Tests.{all-exact}
 use Rattle.groups.specs.Groups.{Group, groups}
@@ -50,7 +50,7 @@ module _ (x : ℕ) (xs : List ℕ) where
   agree-no e = rw (e, agree)
 
 abbrev Agreed : List ℕ → ℕ → Type 0
-Agreed xs a = Some (λ x. x ≡ a) xs × Every (λ x. x ≡ a) xs
+Agreed xs a = Any (λ x. x ≡ a) xs × All (λ x. x ≡ a) xs
 
 agree-says : (xs : List ℕ) → Says (Agreed xs) (agree xs)
 unfolding agree
@@ -83,13 +83,13 @@ unique-says cs =
 abbrev Full : Group → Type 0
 Full g = ((a : ℕ) × In a (g .alternatives)) × Rising (g .alternatives)
 
-groups-full : (cs : List Config) → Every Full (groups cs)
+groups-full : (cs : List Config) → All Full (groups cs)
 groups-full cs =
     in-every Full (groups cs) λ g m.
     let c = config-of cs g m in
     ((c .0 .alternative, c .2 (c .0 .alternative) .1 (in-some _ cs (c .0) (c .1) ((refl, refl), refl))), every-in _ (groups cs) (subsets cs .rising) g m)
 
-first-smallest : (xs : List ℕ) (a : ℕ) → (b : ℕ) × In b xs → Rising xs → (getD xs 0 0 ≡ a) ↔ (In a xs × Every (λ b. a ≤ b) xs)
+first-smallest : (xs : List ℕ) (a : ℕ) → (b : ℕ) × In b xs → Rising xs → (getD xs 0 0 ≡ a) ↔ (In a xs × All (λ b. a ≤ b) xs)
 first-smallest [] a n v = absurd (n .1)
 first-smallest (x ∷ xs) a n v = (
   λ e. (inl e, (omega arith, every-map (λ y. x < y) (λ y. a ≤ y) xs (λ y k. omega arith) (v .0))),
@@ -122,15 +122,15 @@ viable-says cs =
 -- ---- the same of the configs: a is the smallest alternative of the set, and each config has one beside it that has a
 
 pub record Served (cs : List Config) (a : ℕ) : Type 0 where
-  pub some : Some (λ c. c .alternative ≡ a) cs
-  pub least : Every (λ c. a ≤ c .alternative) cs
-  pub each : Every (λ c. Some (λ d. Beside c d × (d .alternative ≡ a)) cs) cs
+  pub some : Any (λ c. c .alternative ≡ a) cs
+  pub least : All (λ c. a ≤ c .alternative) cs
+  pub each : All (λ c. Any (λ d. Beside c d × (d .alternative ≡ a)) cs) cs
 
 viable-served : (cs : List Config) (a : ℕ) → Viable (groups cs) a ↔ Served cs a
 viable-served cs a =
     let gs = groups cs in (
       λ v.
-          let each : (c : Config) → In c cs → Some (λ d. Beside c d × (d .alternative ≡ a)) cs =
+          let each : (c : Config) → In c cs → Any (λ d. Beside c d × (d .alternative ≡ a)) cs =
           λ c m. let g = group-of cs c m in g .2 a .0 (every-in (Smallest a) gs (v .1) (g .0) (g .1) .0) in
           let s = some-in (Smallest a) gs (v .0) in
           let c = config-of cs (s .0) (s .1) in

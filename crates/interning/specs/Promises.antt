@@ -193,7 +193,8 @@ singleton-refused-exactly w z p r n =
     let fives = given 5 (leb stop r && not (eqb r emptyMark)) ∷ noRoom (x .1) ∷ [] in
     let because = reason 5 ((stop ≤ r) × (r ≡ emptyMark → ⊥)) ∷ reason 6 (Fits (x .1) → ⊥) ∷ [] in
     refused-by w z (singletonChecks w z p r) (made x) (no-refusal x) refl (singletonReasons w z p r)
-    (store-decides w z (unknownContext w p ∷ fives) (reason 4 (contexts w ≤ p) ∷ because) (λ l s. known-decides w p fives because (λ k. state-decides r (noRoom (x .1) ∷ []) (reason 6 (Fits (x .1) → ⊥) ∷ []) (room-decides (x .1))))) n
+    (store-decides w z (unknownContext w p ∷ fives) (reason 4 (contexts w ≤ p) ∷ because)
+    (λ l s. known-decides w p fives because (λ k. state-decides r (noRoom (x .1) ∷ []) (reason 6 (Fits (x .1) → ⊥) ∷ []) (room-decides (x .1))))) n
 
 pub singleton-refused-keeps : (w z : List ℕ) (p r n : ℕ) → singletonCall w z p r .reply ≡ refused n → Keeps w z n (singletonCall w z p r)
 unfolding singletonCall

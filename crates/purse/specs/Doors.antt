@@ -5,6 +5,7 @@ use mathlib.Core.Bool.{Bool, not}
 use mathlib.Core.List.{List}
 use Prim.Native.Nat.{ℕ}
 use lib.Dec.{eqb}
+use Rattle.verdicts.specs.Calls.{VerdictReply, VerdictLeft}
 use Rattle.sets.specs.Config.{Config}
 use Rattle.sets.specs.Calls.{SetReply, SetLeft}
 use Rattle.store.specs.Calls.{Reply, Left}
@@ -34,3 +35,10 @@ pub record OpensSet {A : Type 0} (of : SetReply → A) (x : SetLeft) (a : A) (w 
   pub store : w ≡ x .store
   pub set : v ≡ x .set
   pub scratch : z ≡ x .scratch
+
+-- ---- the same of a call on a set's subsets, which may write the scratch and the output alone
+
+pub record OpensVerdict {A : Type 0} (of : VerdictReply → A) (x : VerdictLeft) (a : A) (z o : List ℕ) : Type 0 where
+  pub answer : a ≡ of (x .reply)
+  pub scratch : z ≡ x .scratch
+  pub output : o ≡ x .output

@@ -1,6 +1,7 @@
 // The doors: each call as a C function over plain numbers and slices.
 mod adding;
 mod asking;
+mod judging;
 mod making;
 
 pub use adding::purse_add;
@@ -11,6 +12,11 @@ pub use asking::purse_is_empty;
 pub use asking::purse_len;
 pub use asking::purse_parent;
 pub use asking::purse_return_state;
+pub use judging::purse_all_subsets_conflict;
+pub use judging::purse_all_subsets_equal;
+pub use judging::purse_has_sll_conflict_terminating_prediction;
+pub use judging::purse_single_viable_alt;
+pub use judging::purse_unique_alt;
 pub use making::purse_fresh;
 pub use making::purse_merge;
 pub use making::purse_singleton;

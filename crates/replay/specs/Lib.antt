@@ -1,2 +1,2 @@
--- What the contracts of this program cite. To believe: Sample.
+-- What the contracts of this program cite.
 pub mod Sample

@@ -1,5 +1,5 @@
--- To believe: a sample of scripts with their answers, and what is counted in it. "its length (u32), its bytes, the length of its answer (u32),
--- the answer's bytes; all little-endian, one after the other, to the end of the file".
+-- A sample of scripts with their answers, and what is counted in it: "its length (u32), its bytes, the length of its answer (u32),
+-- the answer's bytes; all little-endian, one after the other, to the end of the file". Nothing here has to be believed: the program is a test.
 pub mod Laws
 use mathlib.Core.Path.{_≡_}
 use mathlib.Core.List.{List}

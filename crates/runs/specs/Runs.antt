@@ -3,21 +3,25 @@ use mathlib.Core.Path.{_≡_}
 use mathlib.Core.Bool.{true, false}
 use mathlib.Core.List.{List, [], _∷_}
 use Prim.Native.Nat.{ℕ}
-use Rattle.store.specs.Calls.{Reply, asked, Accepts}
+use Rattle.store.specs.Calls.{Reply, zeros, asked, Accepts}
 use Rattle.interning.specs.SingletonCall.{singletonCall}
 use Rattle.contexts.specs.MergeCall.{mergeCall}
+use Rattle.sets.specs.Config.{Config}
+use Rattle.sets.specs.Calls.{done, added, setLeft, addCall, closeCall}
 
 -- what a call was: a full-context merge of a and b that answered c, or any other
 pub data Event : Type 0 where
   merged : ℕ → ℕ → ℕ → Event
   other : Event
 
--- one accepted call, from the store's words before to those after, with any scratch
+-- one accepted call that is lent a store, from its words before to those after, with any scratch and any set; the calls on subsets write neither
 pub data Step : List ℕ → Event → List ℕ → Type 0 where
   singleton : {w w′ : List ℕ} (z : List ℕ) (p r c : ℕ) → Accepts (singletonCall w z p r) c w′ → Step w other w′
   wildcard : {w w′ : List ℕ} (z : List ℕ) (a b c : ℕ) → Accepts (mergeCall w z a b true) c w′ → Step w other w′
   full : {w w′ : List ℕ} (z : List ℕ) (a b c : ℕ) → Accepts (mergeCall w z a b false) c w′ → Step w (merged a b c) w′
   query : {w w′ : List ℕ} (z : List ℕ) (c : ℕ) (r : Reply) → asked w z c r .store ≡ w′ → Step w other w′
+  add : {w w′ : List ℕ} (v z : List ℕ) (x : Config) (a : ℕ) (v′ : List ℕ) → addCall w v z x ≡ setLeft (added a) w′ v′ zeros → Step w other w′
+  close : {w w′ : List ℕ} (v z v′ : List ℕ) → closeCall w v z ≡ setLeft done w′ v′ zeros → Step w other w′
 
 -- calls one after another, the newest first
 pub data Run : List ℕ → List Event → List ℕ → Type 0 where

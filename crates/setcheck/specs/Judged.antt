@@ -17,7 +17,7 @@ use Rattle.sets.specs.Sets.Laws.{key-of-same, same-of-key}
 use Rattle.sets.specs.Chains.{last, last-found, last-none, linked-length, linked-other, chain-add}
 use Rattle.sets.specs.Words.{bit, flagsOf, configsIn, SoundSet}
 use Rattle.setcheck.specs.Flags.{joinedFlags, joined-more}
-use Rattle.setcheck.specs.Keys.{keyHeads, keyLinks, bucketOf, hasKey, putKey, Keyed, Sought}
+use Rattle.setcheck.specs.Keys.{keyHeads, keyLinks, keyBucket, hasKey, putKey, Keyed, SoughtKey}
 use Rattle.setcheck.specs.declared.inner.check.Checked.{Checked}
 use Rattle.setcheck.specs.declared.inner.check.Checked.the-variants.{Flags, Bad}
 
@@ -31,25 +31,25 @@ pub record GoodConfig (v : List ℕ) (k i : ℕ) : Type 0 where
   pub new : (j : ℕ) → j < i → key (configAt v j) ≡ key (configAt v i) → ⊥
 
 -- the first n configs are good, and their keys chained
-pub record Passed (v z : List ℕ) (k n : ℕ) : Type 0 where
+pub record PassedConfigs (v z : List ℕ) (k n : ℕ) : Type 0 where
   pub sized : length v ≡ setWordsLength
   pub lent : length z ≡ scratchWords
   pub chains : Keyed v n z
   pub good : (i : ℕ) → i < n → GoodConfig v k i
 
-abbrev pub Judged : List ℕ → List ℕ → ℕ → ℕ → Bool → List ℕ → Type 0
-Judged v z k n true u = Passed v u k (suc n) × SameIndex z u
-Judged v z k n false u = (GoodConfig v k n → ⊥) × (length u ≡ scratchWords)
+abbrev pub JudgedConfig : List ℕ → List ℕ → ℕ → ℕ → Bool → List ℕ → Type 0
+JudgedConfig v z k n true u = PassedConfigs v u k (suc n) × SameIndex z u
+JudgedConfig v z k n false u = (GoodConfig v k n → ⊥) × (length u ≡ scratchWords)
 
 -- so far: f is the flags of a set of these configs that is neither full-context nor closed
 pub record Gathered (v z : List ℕ) (k n f : ℕ) (u : List ℕ) : Type 0 where
-  pub passed : Passed v u k n
+  pub passed : PassedConfigs v u k n
   pub index : SameIndex z u
   pub flags : f ≡ flagsOf (withConfigs (emptySet false) (configsIn v n))
 
-abbrev pub AllJudged : List ℕ → List ℕ → ℕ → ℕ → Checked → List ℕ → Type 0
-AllJudged v z k n (Flags f) u = Gathered v z k n f u
-AllJudged v z k n Bad u = (((i : ℕ) → i < n → GoodConfig v k i) → ⊥) × (length u ≡ scratchWords)
+abbrev pub JudgedConfigs : List ℕ → List ℕ → ℕ → ℕ → Checked → List ℕ → Type 0
+JudgedConfigs v z k n (Flags f) u = Gathered v z k n f u
+JudgedConfigs v z k n Bad u = (((i : ℕ) → i < n → GoodConfig v k i) → ⊥) × (length u ≡ scratchWords)
 
 -- the verdict on a set, with a store of k contexts
 abbrev pub SetVerdict : List ℕ → List ℕ → ℕ → Bool → List ℕ → Type 0
@@ -58,12 +58,12 @@ SetVerdict v z k false u = (SoundSet k v → ⊥) × (length u ≡ scratchWords)
 
 -- ---- one config more
 
-module _ {v z : List ℕ} {k n : ℕ} (p : Passed v z k n) (few : n < mostConfigs) (x : Config) (e : x ≡ configAt v n) where
+module _ {v z : List ℕ} {k n : ℕ} (p : PassedConfigs v z k n) (few : n < mostConfigs) (x : Config) (e : x ≡ configAt v n) where
   pub unknown-bad : k ≤ x .context → GoodConfig v k n → ⊥
   unknown-bad h g = omega (arith, rw e at h, g .known)
 
-  module _ (b : ℕ) (eb : b ≡ bucketOf (key x)) (small : b < 256) where
-    pub passed-sought : Sought v z n x b
+  module _ (b : ℕ) (eb : b ≡ keyBucket (key x)) (small : b < 256) where
+    pub passed-sought : SoughtKey v z n x b
     passed-sought = record { sized = p .sized; lent = p .lent; few = omega arith; chains = p .chains; bucket = eb; small = small }
 
     -- its key stands before it
@@ -79,14 +79,14 @@ module _ {v z : List ℕ} {k n : ℕ} (p : Passed v z k n) (few : n < mostConfig
       new = λ j l q. never-both (same-of-key x (configAt v j) (ap key e ∙ sym q)) (last-none (hasKey v x) n f j l);
     }
 
-    pub new-passed : x .context < k → last (hasKey v x) n ≡ nowhere → (u : List ℕ) → u ≡ putKey z n b → Passed v u k (suc n) × SameIndex z u
+    pub new-passed : x .context < k → last (hasKey v x) n ≡ nowhere → (u : List ℕ) → u ≡ putKey z n b → PassedConfigs v u k (suc n) × SameIndex z u
     new-passed h f u q =
         let apart : keyHeads + 256 ≤ keyLinks = omega arith in
         let room : keyLinks + n < length z = omega (arith, p .lent) in rw q (
           record {
             sized = p .sized;
             lent = linked-length keyHeads keyLinks n b z apart room small ∙ p .lent;
-            chains = chain-add keyHeads keyLinks n b z apart room small _ (sym (eb ∙ ap (λ (y : Config). bucketOf (key y)) e)) (p .chains);
+            chains = chain-add keyHeads keyLinks n b z apart room small _ (sym (eb ∙ ap (λ (y : Config). keyBucket (key y)) e)) (p .chains);
             good = λ i l. two i n (λ d. rw d (new-good h f)) (λ d. p .good i (omega arith));
           },
           λ j l. linked-other keyHeads keyLinks n b z apart room small j (omega arith) (omega arith),
@@ -94,11 +94,11 @@ module _ {v z : List ℕ} {k n : ℕ} (p : Passed v z k n) (few : n < mostConfig
 
 -- ---- all configs
 
-pub gathered-none : (v z : List ℕ) (k : ℕ) → Passed v z k 0 → Gathered v z k 0 0 z
+pub gathered-none : (v z : List ℕ) (k : ℕ) → PassedConfigs v z k 0 → Gathered v z k 0 0 z
 unfolding configsIn flagsOf hasSemantic dips any bit
 gathered-none v z k p = record { passed = p; index = λ j l. refl; flags = refl }
 
-pub gathered-next : {v z : List ℕ} {k n f : ℕ} {u : List ℕ} → Gathered v z k n f u → (y : List ℕ) → Passed v y k (suc n) × SameIndex u y
+pub gathered-next : {v z : List ℕ} {k n f : ℕ} {u : List ℕ} → Gathered v z k n f u → (y : List ℕ) → PassedConfigs v y k (suc n) × SameIndex u y
     → (x : Config) → x ≡ configAt v n → Gathered v z k (suc n) (joinedFlags f x) y
 unfolding configsIn
 gathered-next {v} {z} {k} {n} g y j x e = record {

@@ -18,14 +18,14 @@ use Rattle.sets.specs.Flags.{four, flags-are, four-of, four-second, four-third,
 use Rattle.sets.specs.Sound.{semantic-at, at-semantic, dips-at, at-dips, sound-flags}
 use Rattle.sets.specs.Chains.{chain-empty}
 use Rattle.setcheck.specs.Keys.{keyHeads, keyLinks, Keyed}
-use Rattle.setcheck.specs.Judged.{SameIndex, GoodConfig, Passed, Gathered, AllJudged, SetVerdict}
+use Rattle.setcheck.specs.Judged.{SameIndex, GoodConfig, PassedConfigs, Gathered, JudgedConfigs, SetVerdict}
 use Rattle.setcheck.specs.declared.inner.check.Checked.{Checked}
 use Rattle.setcheck.specs.declared.inner.check.Checked.the-variants.{Flags, Bad}
 
 -- ---- empty chains
 
 module _ (v z : List ℕ) (k : ℕ) (lv : length v ≡ setWordsLength) (lz : length z ≡ scratchWords) (y : List ℕ) (e : y ≡ clearedRange z keyHeads keyLinks) where
-  pub start-passed : Passed v y k 0
+  pub start-passed : PassedConfigs v y k 0
   start-passed = rw e (record {
     sized = lv;
     lent = length-clearedRange z keyHeads keyLinks (omega arith) (omega arith) ∙ lz;
@@ -91,7 +91,7 @@ verdict-if v z u k false is isnt l c i = (isnt refl, l)
 -- ---- the whole check
 
 module _ (v z : List ℕ) (k : ℕ) (lv : length v ≡ setWordsLength) (lz : length z ≡ scratchWords) (y : List ℕ) (e : y ≡ clearedRange z keyHeads keyLinks)
-    (n : ℕ) (counted : n ≡ configCount v) (few : n ≤ mostConfigs) (u : List ℕ) (r : Checked) (j : AllJudged v y k n r u) where
+    (n : ℕ) (counted : n ≡ configCount v) (few : n ≤ mostConfigs) (u : List ℕ) (r : Checked) (j : JudgedConfigs v y k n r u) where
   pub bad-verdict : r ≡ Bad → SetVerdict v z k false u
   bad-verdict q = let bad = rw q at j in (λ s. bad .0 (λ i l. sound-configs k v s i (rw counted at l)), bad .1)
 

@@ -63,7 +63,8 @@ module _ (x : Config) (c : ℕ) where
   positive-max : (a b : ℕ) → ltb 0 (max a b) ≡ (ltb 0 a || ltb 0 b)
   positive-max a b =
       two a 0
-      (λ e. rw (le-ltb 0 a (omega arith)) (two b 0 (λ d. le-ltb 0 (max a b) (omega arith) ∙ sym (le-ltb 0 b (omega arith))) (λ d. lt-ltb 0 (max a b) (omega arith) ∙ sym (lt-ltb 0 b (omega arith)))))
+      (λ e. rw (le-ltb 0 a (omega arith)) (two b 0 (λ d. le-ltb 0 (max a b) (omega arith) ∙ sym (le-ltb 0 b (omega arith)))
+      (λ d. lt-ltb 0 (max a b) (omega arith) ∙ sym (lt-ltb 0 b (omega arith)))))
       (λ e. lt-ltb 0 (max a b) (omega arith) ∙ rw (lt-ltb 0 a (omega arith)))
 
   here : (a p d k : Bool) → ((a || p) || (d || (k && p))) ≡ ((a || d) || p)

@@ -9,7 +9,7 @@ pub mod Reasons
 pub mod Chains
 pub mod Flags
 pub mod Listed
-pub mod Holds
+pub mod Held
 pub mod Sound
 pub mod Joined
 pub mod Kept

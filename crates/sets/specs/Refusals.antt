@@ -69,7 +69,7 @@ module _ (w v z : List ℕ) where
 -- ---- the first checks, in document 01's words
 
 module _ (w v z : List ℕ) where
-  pub record Lent : Type 0 where
+  pub record SoundLent : Type 0 where
     pub store-length : length w ≡ storeWords
     pub set-length : length v ≡ setWordsLength
     pub scratch-length : length z ≡ scratchWords
@@ -86,7 +86,7 @@ module _ (w v z : List ℕ) where
   unfolding lentLengths
   right-lengths l = both-true _ _ (eq-eqb (length w) storeWords (l .0)) (both-true _ _ (eq-eqb (length v) setWordsLength (l .1)) (eq-eqb (length z) scratchWords (l .2)))
 
-  pub clear-lent : Clear (lentChecks (lentLengths w v z) w v []) → Lent
+  pub clear-lent : Clear (lentChecks (lentLengths w v z) w v []) → SoundLent
   unfolding lentChecks
   clear-lent c =
       let l = lengths-right (not-false _ (c .0)) in
@@ -98,7 +98,7 @@ module _ (w v z : List ℕ) where
         set-sound = sound-set-true (contexts w) v (not-false _ (c .1 .1 .0));
       }
 
-  pub lent-clear : Lent → Clear (lentChecks (lentLengths w v z) w v [])
+  pub lent-clear : SoundLent → Clear (lentChecks (lentLengths w v z) w v [])
   unfolding lentChecks
   lent-clear l = (
     ap not (right-lengths (l .store-length, l .set-length, l .scratch-length)),
@@ -106,7 +106,7 @@ module _ (w v z : List ℕ) where
   )
 
   -- the checks 2, 1 and 3 decide their reasons
-  pub lent-decides : (more : List Check) (rs : List Reason) → (Lent → Decides more rs) → Decides (lentChecks (lentLengths w v z) w v more) (lentReasons w v z rs)
+  pub lent-decides : (more : List Check) (rs : List Reason) → (SoundLent → Decides more rs) → Decides (lentChecks (lentLengths w v z) w v more) (lentReasons w v z rs)
   unfolding lentChecks
   lent-decides more rs next = (
     refl,
@@ -138,7 +138,7 @@ module _ (w v z : List ℕ) (x : Config) where
   New = (i : ℕ) → i < configCount v → key (configAt v i) ≡ key x → ⊥
 
   -- a new key, and 256 configs
-  full-new : Lent w v z → (not (any (sameKey x) (setOf v .configs)) && leb mostConfigs (length (setOf v .configs))) ≡ true → New × (configCount v ≡ mostConfigs)
+  full-new : SoundLent w v z → (not (any (sameKey x) (setOf v .configs)) && leb mostConfigs (length (setOf v .configs))) ≡ true → New × (configCount v ≡ mostConfigs)
   unfolding New
   full-new l t =
       let none = not-true _ (and-left _ (leb mostConfigs (length (setOf v .configs))) t) in

@@ -61,13 +61,13 @@ unfoldable pub joinedAll : Config → ℕ → List Config → List Config
 joinedAll x c cs = map (λ y. elim (sameKey x y) [ true ↦ joined x c y | false ↦ y ]) cs
 
 -- the answer, 1 for inserted and 0 for merged, and the store and the set after it
-pub record Added : Type 0 where
+pub record Addition : Type 0 where
   pub answer : ℕ
   pub store : Store
   pub set : Set
 
 -- "On a known key the contexts are merged (wildcard unless flag 1) .., answer "merged". Otherwise the config goes last, answer "inserted"."
-unfoldable pub addTo : Store → Set → Config → Added
+unfoldable pub addTo : Store → Set → Config → Addition
 addTo s S x =
     elim (held x (S .configs)) [
       | at c ↦ let P = mergeS (not (S .full)) s c (x .context) in record { answer = 0; store = P .1; set = withConfigs S (joinedAll x (P .0) (S .configs)) }

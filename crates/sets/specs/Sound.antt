@@ -17,7 +17,7 @@ use Rattle.sets.specs.Words.{flagsOf, setWords, configsIn, setOf, SoundS
 use Rattle.store.specs.Checks.{Exactly}
 use Rattle.sets.specs.Flags.{four, flags-are, four-of, four-below, four-second, four-third}
 use Rattle.sets.specs.Listed.{configs-length, any-at, at-any, all-at, at-all, distinct-at, at-distinct}
-use Rattle.sets.specs.Holds.{Holds, held-words, words-held, held-set}
+use Rattle.sets.specs.Held.{HeldSet, held-words, words-held, held-set}
 
 -- ---- the flags that the configs decide
 
@@ -55,7 +55,7 @@ module _ (k : ℕ) (S : Set) (g : goodSet k S ≡ true) where
 
 -- ---- words that hold a sound set are sound
 
-pub held-sound : (k : ℕ) (v : List ℕ) (S : Set) → Holds v S → goodSet k S ≡ true → SoundSet k v
+pub held-sound : (k : ℕ) (v : List ℕ) (S : Set) → HeldSet v S → goodSet k S ≡ true → SoundSet k v
 unfolding flag
 held-sound k v S h g =
     let cs : configsIn v (configCount v) ≡ S .configs = ap (configsIn v) (h .count) ∙ h .configs in
@@ -99,7 +99,7 @@ module _ (k : ℕ) (v : List ℕ) (s : SoundSet k v) where
       both-true _ _ (le-leb (length (configsIn v (configCount v))) mostConfigs (omega (arith, s .counted, configs-length v (configCount v))))
       (both-true _ _ (at-all (λ x. ltb (x .context) k) v (configCount v) (λ i l. lt-ltb _ k (s .known i l))) (at-distinct v (configCount v) (s .differ)))
 
-  pub sound-held : length v ≡ setWordsLength → Holds v (setOf v)
+  pub sound-held : length v ≡ setWordsLength → HeldSet v (setOf v)
   sound-held l =
       let n : length (configsIn v (configCount v)) ≡ configCount v = configs-length v (configCount v) in
       record {

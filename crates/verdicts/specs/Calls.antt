@@ -6,12 +6,11 @@ use Prim.Native.Nat.{ℕ}
 use lib.Dec.{eqb, ltb}
 use lib.ListN.{length}
 use Rattle.store.specs.Calls.{zeros}
-use Rattle.sets.specs.Config.{Config}
 use Rattle.sets.specs.Words.{setOf}
 use Rattle.store.specs.Checks.{Check, given, unless}
 use Rattle.sets.specs.Calls.{lentLengths, lentChecks}
 use Rattle.groups.specs.Answers.{Answer, allSubsetsConflict, allSubsetsEqual, singleViableAlt, uniqueAlt, verdict}
-use Rattle.verdicts.specs.Outputs.{subsetsLength, altsLength, subsetsWords, altsWords}
+use Rattle.outputs.specs.Outputs.{subsetsLength, altsLength, subsetsWords, altsWords}
 
 -- a refusal with its number; yes or no; an alternative, or none; words written
 pub data VerdictReply : Type 0 where
@@ -30,39 +29,36 @@ abbrev pub verdictLeft : VerdictReply → List ℕ → List ℕ → VerdictLeft
 verdictLeft r z o = record { reply = r; scratch = z; output = o }
 
 -- "Store, set and outputs stay as on entry; scratch is 0 (untouched on 2)"
-unfoldable pub refusal : List ℕ → List ℕ → ℕ → VerdictLeft
-refusal z o n = elim (eqb n 2) [ true ↦ verdictLeft (refused n) z o | false ↦ verdictLeft (refused n) zeros o ]
+unfoldable pub readRefusal : List ℕ → List ℕ → ℕ → VerdictLeft
+readRefusal z o n = elim (eqb n 2) [ true ↦ verdictLeft (refused n) z o | false ↦ verdictLeft (refused n) zeros o ]
 
 -- checks 2, with n words of output, 1 and 3, then those in `more`; then the reply r and the output p
-unfoldable pub asked : ℕ → List Check → List ℕ → List ℕ → List ℕ → List ℕ → VerdictReply → List ℕ → VerdictLeft
-asked n more w v z o r p = unless (lentChecks (lentLengths w v z && eqb (length o) n) w v more) (refusal z o) (verdictLeft r zeros p)
+unfoldable pub readCall : ℕ → List Check → List ℕ → List ℕ → List ℕ → List ℕ → VerdictReply → List ℕ → VerdictLeft
+readCall n more w v z o r p = unless (lentChecks (lentLengths w v z && eqb (length o) n) w v more) (readRefusal z o) (verdictLeft r zeros p)
 
 -- ---- the calls
 
-abbrev pub configs : List ℕ → List Config
-configs v = setOf v .configs
-
 unfoldable pub conflictingAltSubsetsCall : List ℕ → List ℕ → List ℕ → List ℕ → VerdictLeft
-conflictingAltSubsetsCall w v z o = asked subsetsLength [] w v z o written (subsetsWords (configs v))
+conflictingAltSubsetsCall w v z o = readCall subsetsLength [] w v z o written (subsetsWords (setOf v .configs))
 
 unfoldable pub conflictingAltsCall : List ℕ → List ℕ → List ℕ → List ℕ → VerdictLeft
-conflictingAltsCall w v z o = asked altsLength [] w v z o written (altsWords (configs v))
+conflictingAltsCall w v z o = readCall altsLength [] w v z o written (altsWords (setOf v .configs))
 
 unfoldable pub uniqueAltCall : List ℕ → List ℕ → List ℕ → VerdictLeft
-uniqueAltCall w v z = asked 0 [] w v z [] (alternative (uniqueAlt (configs v))) []
+uniqueAltCall w v z = readCall 0 [] w v z [] (alternative (uniqueAlt (setOf v .configs))) []
 
 unfoldable pub singleViableAltCall : List ℕ → List ℕ → List ℕ → VerdictLeft
-singleViableAltCall w v z = asked 0 [] w v z [] (alternative (singleViableAlt (configs v))) []
+singleViableAltCall w v z = readCall 0 [] w v z [] (alternative (singleViableAlt (setOf v .configs))) []
 
 unfoldable pub allSubsetsConflictCall : List ℕ → List ℕ → List ℕ → VerdictLeft
-allSubsetsConflictCall w v z = asked 0 [] w v z [] (says (allSubsetsConflict (configs v))) []
+allSubsetsConflictCall w v z = readCall 0 [] w v z [] (says (allSubsetsConflict (setOf v .configs))) []
 
 unfoldable pub allSubsetsEqualCall : List ℕ → List ℕ → List ℕ → VerdictLeft
-allSubsetsEqualCall w v z = asked 0 [] w v z [] (says (allSubsetsEqual (configs v))) []
+allSubsetsEqualCall w v z = readCall 0 [] w v z [] (says (allSubsetsEqual (setOf v .configs))) []
 
 abbrev pub mostStops : ℕ
 mostStops = 64
 
 -- 10: more than 64 stop states
 unfoldable pub verdictCall : List ℕ → List ℕ → List ℕ → List ℕ → VerdictLeft
-verdictCall w v z stops = asked 0 (given 10 (ltb mostStops (length stops)) ∷ []) w v z [] (says (verdict stops (configs v))) []
+verdictCall w v z stops = readCall 0 (given 10 (ltb mostStops (length stops)) ∷ []) w v z [] (says (verdict stops (setOf v .configs))) []

@@ -1,6 +1,8 @@
--- The calls on a set's subsets. To believe: Outputs, Calls, Replies. To read beside document 01's table: Refused, Determined.
-pub mod Outputs
+-- The calls on a set's subsets. To believe: Calls, Replies, Reasons. To read beside document 01: Sentences, Refused, Determined.
 pub mod Calls
 pub mod Replies
+pub mod Reasons
 pub mod Refused
 pub mod Determined
+pub mod Opened
+pub mod Sentences

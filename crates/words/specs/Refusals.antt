@@ -1,7 +1,8 @@
 -- To believe: document 01's number of each refusal, in its order of checking.
 use Prim.Native.Nat.{ℕ}
 use Rattle.words.specs.declared.refusals.Refusal.{Refusal}
-use Rattle.words.specs.declared.refusals.Refusal.the-variants.{WrongLength, UnsoundStore, UnsoundSet, TooManyStops, ReadOnlySet, UnknownContext, StateOutOfRange, FullSet, FullStore, MalformedRecord}
+use Rattle.words.specs.declared.refusals.Refusal.the-variants.{WrongLength, UnsoundStore, UnsoundSet, TooManyStops, ReadOnlySet, UnknownContext, StateOutOfRange, FullSet, FullStore}
+use Rattle.words.specs.declared.refusals.Refusal.the-variants.{MalformedRecord}
 
 -- 12 to 15 are document 02's, and come below with their cases
 abbrev pub number : Refusal → ℕ

@@ -19,7 +19,7 @@ pub fn time_all() {
 fn clear() {
     let mut words = vec![7u32; SCRATCH];
     let at = words.as_mut_ptr();
-    let best = take_turns(20_000, &mut || unsafe { measure_clear(black_box(at), SCRATCH) }, &mut || unsafe {
+    let best = take_turns(1_000, &mut || unsafe { measure_clear(black_box(at), SCRATCH) }, &mut || unsafe {
         rust_clear(black_box(at), SCRATCH)
     });
     assert!(words.iter().all(|word| *word == 0));
@@ -31,7 +31,7 @@ fn copy() {
     let mut target = vec![0u32; STORE];
     let (to, from) = (target.as_mut_ptr(), source.as_ptr());
     let best = take_turns(
-        20_000,
+        1_000,
         &mut || unsafe { measure_copy(black_box(to), STORE, black_box(from), STORE) },
         &mut || unsafe { rust_copy(black_box(to), STORE, black_box(from), STORE) },
     );
@@ -43,7 +43,7 @@ fn all_zero() {
     let words = vec![0u32; SCRATCH];
     let at = words.as_ptr();
     let best =
-        take_turns(20_000, &mut || assert!(unsafe { measure_all_zero(black_box(at), SCRATCH) }), &mut || {
+        take_turns(1_000, &mut || assert!(unsafe { measure_all_zero(black_box(at), SCRATCH) }), &mut || {
             assert!(unsafe { rust_all_zero(black_box(at), SCRATCH) })
         });
     report("all zero, 16384 words", &best);
@@ -55,7 +55,7 @@ fn hash() {
     let port = unsafe { measure_hash(at, words.len()) };
     assert_eq!(port, unsafe { rust_hash(at, words.len()) });
     let best = take_turns(
-        200_000,
+        10_000,
         &mut || {
             black_box(unsafe { measure_hash(black_box(at), words.len()) });
         },

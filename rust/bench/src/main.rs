@@ -1,14 +1,16 @@
-//! Times the port: leaves beside their Rust twins, singletons beside plain Rust with the same duties,
-//! merges beside the original. Both sides are called through a boundary that is not inlined, turn by turn
-//! in one run, and the best round of each is compared.
+//! Times the port: leaves beside their Rust twins, singletons beside plain Rust with the same duties, merges
+//! and verdicts beside the original, configs added to sets beside both. Both sides are called through a
+//! boundary that is not inlined, turn by turn in one run, and the best round of each is compared.
 mod doors;
 mod leaves;
 mod merges;
 mod plain;
 mod rounds;
+mod sets;
 mod singletons;
+mod verdicts;
 
-const HELP: &str = "bench [leaves | singletons | merges]: times these, or all";
+const HELP: &str = "bench [leaves | singletons | merges | sets | verdicts]: times these, or all";
 
 fn main() {
     let words: Vec<String> = std::env::args().skip(1).collect();
@@ -17,10 +19,14 @@ fn main() {
             leaves::time_all();
             singletons::time_all();
             merges::time_all();
+            sets::time_all();
+            verdicts::time_all();
         }
         ["leaves"] => leaves::time_all(),
         ["singletons"] => singletons::time_all(),
         ["merges"] => merges::time_all(),
+        ["sets"] => sets::time_all(),
+        ["verdicts"] => verdicts::time_all(),
         _ => {
             eprintln!("{HELP}");
             std::process::exit(2);

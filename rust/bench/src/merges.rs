@@ -187,13 +187,13 @@ impl Case {
         merged.expect("the original accepts it").0
     }
 
-    /// Calls a round: about two milliseconds of the original's time.
+    /// Calls a round: about a fifth of a millisecond of the original's time.
     fn calls(&self) -> u32 {
         let mut machine = built(self);
         context(&mut machine, &self.record());
         let began = Instant::now();
         context(&mut machine, &self.record());
-        (2_000_000 / began.elapsed().as_nanos().max(1)).clamp(3, 1_000) as u32
+        (200_000 / began.elapsed().as_nanos().max(1)).clamp(1, 100) as u32
     }
 }
 

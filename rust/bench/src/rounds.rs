@@ -1,7 +1,8 @@
 //! Timing in rounds: the sides take turns, and each side's best round counts.
 use std::time::Instant;
 
-const ROUNDS: usize = 25;
+/// Many short rounds: the best ones are not interrupted, on a busy machine too.
+const ROUNDS: usize = 250;
 
 /// Nanoseconds a call of the best round, of each side.
 pub struct Best {

@@ -74,7 +74,7 @@ fn time(case: &Case) {
     let count = narrow(case.store.count());
     let [mut port, mut plain, mut floor] = [(); 3].map(|()| Lent::new(&case.store));
     let best = best_of(
-        2_000,
+        100,
         [
             &mut || {
                 assert_eq!(port_singleton(&mut port, case), case.answer);

@@ -1,4 +1,4 @@
-//! Every call, and what it leaves for any words and arguments: the reply and each word afterwards.
+//! Every call on a store, and what it leaves for any words and arguments: the reply and each word afterwards.
 
 use crate::layout::{DOLLAR, EMPTY_MARK, SCRATCH_WORDS, STORE_WORDS, narrow, wide};
 use crate::store::Store;
@@ -6,9 +6,13 @@ use crate::store::Store;
 /// Refusals, by document 01's numbers.
 pub const UNSOUND_STORE: u32 = 1;
 pub const WRONG_LENGTH: u32 = 2;
+pub const UNSOUND_SET: u32 = 3;
 pub const UNKNOWN_CONTEXT: u32 = 4;
 pub const STATE_OUT_OF_RANGE: u32 = 5;
 pub const FULL_STORE: u32 = 6;
+pub const READ_ONLY_SET: u32 = 7;
+pub const FULL_SET: u32 = 8;
+pub const TOO_MANY_STOPS: u32 = 10;
 
 #[derive(Clone, Copy, Debug, Eq, PartialEq)]
 pub enum Call {
@@ -51,6 +55,12 @@ pub enum Reply {
     Truth(bool),
     /// A return state or a parent; `None` where there is none.
     Entry(Option<u64>),
+    /// A config went last; or it was merged.
+    Added {
+        inserted: bool,
+    },
+    /// An alternative; `None` where there is none.
+    Alternative(Option<u32>),
 }
 
 /// All that a call leaves.

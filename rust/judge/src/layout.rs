@@ -9,6 +9,24 @@ pub const STATES_AT: usize = PARENTS_AT + MOST_ENTRIES;
 pub const STORE_WORDS: usize = STATES_AT + MOST_ENTRIES;
 pub const SCRATCH_WORDS: usize = 16_384;
 
+pub const MOST_CONFIGS: usize = 256;
+pub const CONFIGS_AT: usize = 2;
+pub const CONFIG_WORDS: usize = 6;
+pub const SET_WORDS: usize = CONFIGS_AT + CONFIG_WORDS * MOST_CONFIGS;
+
+/// What subsets and conflicting alternatives are written to.
+pub const SUBSET_WORDS: usize = 1 + 4 * MOST_CONFIGS;
+pub const CONFLICT_WORDS: usize = 1 + MOST_CONFIGS;
+
+/// The most stop states of a verdict.
+pub const MOST_STOPS: usize = 64;
+
+/// The flags of a set.
+pub const FULL_CONTEXT: u32 = 1;
+pub const HAS_SEMANTIC: u32 = 2;
+pub const DIPS: u32 = 4;
+pub const READ_ONLY: u32 = 8;
+
 pub const EMPTY: u32 = 0;
 pub const SINGLETON: u32 = 1;
 pub const ARRAY: u32 = 2;

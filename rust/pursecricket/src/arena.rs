@@ -1,6 +1,6 @@
 //! A store that owns the words it lends.
 
-use std::cell::RefCell;
+use std::cell::{RefCell, RefMut};
 use std::fmt;
 
 use crate::raw::{self, SCRATCH_WORDS, STORE_WORDS};
@@ -42,32 +42,42 @@ impl ContextArena {
 
     /// Entries of a context; context 0 has one.
     pub fn len(&self, context: ContextId) -> Result<u32, Refusal> {
-        raw::len(&self.store, &mut self.scratch.borrow_mut(), context)
+        raw::len(&self.store, &mut self.scratch(), context)
     }
 
     /// Is this the context of the empty stack alone?
     pub fn is_empty(&self, context: ContextId) -> Result<bool, Refusal> {
-        raw::is_empty(&self.store, &mut self.scratch.borrow_mut(), context)
+        raw::is_empty(&self.store, &mut self.scratch(), context)
     }
 
     /// Is the empty stack one of the context's?
     pub fn has_empty_path(&self, context: ContextId) -> Result<bool, Refusal> {
-        raw::has_empty_path(&self.store, &mut self.scratch.borrow_mut(), context)
+        raw::has_empty_path(&self.store, &mut self.scratch(), context)
     }
 
     /// The return state of an entry, the empty mark for the empty stack; `None` past the end.
     pub fn return_state(&self, context: ContextId, index: u32) -> Result<Option<ReturnState>, Refusal> {
-        raw::return_state(&self.store, &mut self.scratch.borrow_mut(), context, index)
+        raw::return_state(&self.store, &mut self.scratch(), context, index)
     }
 
     /// The parent of an entry; `None` past the end, and for context 0 at every index.
     pub fn parent(&self, context: ContextId, index: u32) -> Result<Option<ContextId>, Refusal> {
-        raw::parent(&self.store, &mut self.scratch.borrow_mut(), context, index)
+        raw::parent(&self.store, &mut self.scratch(), context, index)
     }
 
     /// The store's words, as document 01 lays them out.
     pub fn words(&self) -> &[u32] {
         &self.store
+    }
+
+    /// Store and scratch, for a call that may write both.
+    pub(crate) fn lend(&mut self) -> (&mut [u32], &mut [u32]) {
+        (&mut self.store, self.scratch.get_mut())
+    }
+
+    /// The scratch, for a call that only reads the store.
+    pub(crate) fn scratch(&self) -> RefMut<'_, Box<[u32]>> {
+        self.scratch.borrow_mut()
     }
 }
 

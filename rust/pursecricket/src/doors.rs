@@ -23,6 +23,13 @@ pub type Query = unsafe extern "C" fn(*const u32, usize, *mut u32, usize, u32) -
 /// A query on an entry of a context.
 pub type EntryQuery = unsafe extern "C" fn(*const u32, usize, *mut u32, usize, u32, u32) -> EntryAnswer;
 
+/// A question about a set's subsets: store and set are only read.
+pub type SetQuery = unsafe extern "C" fn(*const u32, usize, *const u32, usize, *mut u32, usize) -> Answer;
+
+/// A question for an alternative of a set.
+pub type AltQuery =
+    unsafe extern "C" fn(*const u32, usize, *const u32, usize, *mut u32, usize) -> EntryAnswer;
+
 #[allow(unsafe_code)]
 unsafe extern "C" {
     pub fn purse_fresh(store: *mut u32, store_len: usize) -> u32;
@@ -87,4 +94,77 @@ unsafe extern "C" {
         context: u32,
         index: u32,
     ) -> EntryAnswer;
+
+    pub fn purse_fresh_set(set: *mut u32, set_len: usize, mode: u32) -> u32;
+
+    pub fn purse_add(
+        store: *mut u32,
+        store_len: usize,
+        set: *mut u32,
+        set_len: usize,
+        scratch: *mut u32,
+        scratch_len: usize,
+        state: u32,
+        alternative: u32,
+        context: u32,
+        semantic: u32,
+        reach: u32,
+        provenance: u32,
+    ) -> Answer;
+
+    pub fn purse_close(
+        store: *const u32,
+        store_len: usize,
+        set: *mut u32,
+        set_len: usize,
+        scratch: *mut u32,
+        scratch_len: usize,
+    ) -> u32;
+
+    pub fn purse_unique_alt(
+        store: *const u32,
+        store_len: usize,
+        set: *const u32,
+        set_len: usize,
+        scratch: *mut u32,
+        scratch_len: usize,
+    ) -> EntryAnswer;
+
+    pub fn purse_single_viable_alt(
+        store: *const u32,
+        store_len: usize,
+        set: *const u32,
+        set_len: usize,
+        scratch: *mut u32,
+        scratch_len: usize,
+    ) -> EntryAnswer;
+
+    pub fn purse_all_subsets_conflict(
+        store: *const u32,
+        store_len: usize,
+        set: *const u32,
+        set_len: usize,
+        scratch: *mut u32,
+        scratch_len: usize,
+    ) -> Answer;
+
+    pub fn purse_all_subsets_equal(
+        store: *const u32,
+        store_len: usize,
+        set: *const u32,
+        set_len: usize,
+        scratch: *mut u32,
+        scratch_len: usize,
+    ) -> Answer;
+
+    pub fn purse_has_sll_conflict_terminating_prediction(
+        store: *const u32,
+        store_len: usize,
+        set: *const u32,
+        set_len: usize,
+        scratch: *mut u32,
+        scratch_len: usize,
+        stops: *const u32,
+        stops_len: usize,
+    ) -> Answer;
 }

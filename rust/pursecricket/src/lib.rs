@@ -1,7 +1,9 @@
-//! Prediction contexts: finite sets of stacks of return states, interned and merged by a proved library.
+//! Prediction contexts: finite sets of stacks of return states, interned and merged by a proved library; and
+//! the config sets that stand over them.
 //!
-//! [`ContextArena`] has the names of the runtime that the library was ported from, and owns the words that
-//! the library is lent. A call that is refused leaves the store as it was and says why with a [`Refusal`].
+//! [`ContextArena`] and [`AtnConfigSet`] have the names of the runtime that the library was ported from, and
+//! own the words that the library is lent. A call that is refused leaves both as they were and says why with
+//! a [`Refusal`].
 //!
 //! ```
 //! use pursecricket::{ContextArena, EMPTY_CONTEXT, Refusal, ReturnState};
@@ -27,11 +29,15 @@
 #![warn(missing_docs)]
 
 mod arena;
+mod config;
+mod config_set;
 mod doors;
 mod names;
 pub mod raw;
 mod refusal;
 
 pub use arena::ContextArena;
-pub use names::{ContextId, EMPTY_CONTEXT, EMPTY_RETURN_STATE, ReturnState};
+pub use config::AtnConfig;
+pub use config_set::AtnConfigSet;
+pub use names::{Alternative, ContextId, EMPTY_CONTEXT, EMPTY_RETURN_STATE, ReturnState, SemanticContextId};
 pub use refusal::Refusal;

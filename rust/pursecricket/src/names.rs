@@ -1,4 +1,4 @@
-//! Context numbers and return states, which are never taken for one another.
+//! Context numbers, return states, alternatives and semantic ids, which are never taken for one another.
 
 /// The number of a context of one store.
 #[derive(Clone, Copy, Debug, Eq, Hash, Ord, PartialEq, PartialOrd)]
@@ -7,6 +7,14 @@ pub struct ContextId(pub u32);
 /// A return state: at most 4294967294, or [`EMPTY_RETURN_STATE`].
 #[derive(Clone, Copy, Debug, Eq, Hash, Ord, PartialEq, PartialOrd)]
 pub struct ReturnState(pub u64);
+
+/// An alternative of a decision.
+#[derive(Clone, Copy, Debug, Eq, Hash, Ord, PartialEq, PartialOrd)]
+pub struct Alternative(pub u32);
+
+/// The number of a semantic context, which the caller keeps; 0 is none.
+#[derive(Clone, Copy, Debug, Default, Eq, Hash, Ord, PartialEq, PartialOrd)]
+pub struct SemanticContextId(pub u32);
 
 /// The context of the empty stack alone; every store has it.
 pub const EMPTY_CONTEXT: ContextId = ContextId(0);

@@ -1,26 +1,33 @@
 //! The border over plain slices, of any length and with any words: what the library is lent and nothing else.
 //!
-//! A store is 5,634 words and a scratch 16,384. Any other length is refused with [`Refusal::WrongLength`] and
-//! leaves both slices; a store that is not sound is refused with [`Refusal::UnsoundStore`]. The scratch may
-//! hold anything; every call but one that is refused for a length leaves it all 0.
+//! A store is 5,634 words, a config set 1,538 and a scratch 16,384. Any other length is refused with
+//! [`Refusal::WrongLength`] and leaves every slice; a store that is not sound is refused with
+//! [`Refusal::UnsoundStore`], and a set that is not with [`Refusal::UnsoundSet`]. The scratch may hold
+//! anything; every call but one that is refused for a length leaves it all 0.
 #![allow(unsafe_code)]
 
 use crate::doors::{
-    Answer, EntryAnswer, EntryQuery, Query, purse_fresh, purse_has_empty_path, purse_is_empty, purse_len,
-    purse_merge, purse_parent, purse_return_state, purse_singleton,
+    AltQuery, Answer, EntryAnswer, EntryQuery, Query, SetQuery, purse_add, purse_all_subsets_conflict,
+    purse_all_subsets_equal, purse_close, purse_fresh, purse_fresh_set, purse_has_empty_path,
+    purse_has_sll_conflict_terminating_prediction, purse_is_empty, purse_len, purse_merge, purse_parent,
+    purse_return_state, purse_single_viable_alt, purse_singleton, purse_unique_alt,
 };
-use crate::{ContextId, Refusal, ReturnState};
+use crate::{Alternative, AtnConfig, ContextId, Refusal, ReturnState};
 
 /// Words of a store.
 pub const STORE_WORDS: usize = 5_634;
+/// Words of a config set.
+pub const SET_WORDS: usize = 1_538;
 /// Words of a scratch.
 pub const SCRATCH_WORDS: usize = 16_384;
+/// The most stop states of a verdict.
+pub const MOST_STOPS: usize = 64;
 
 /// Writes a fresh store over any words.
 pub fn fresh(store: &mut [u32]) -> Result<(), Refusal> {
     // SAFETY: the pointer and the length are those of one exclusive slice, which outlives the call.
     let refusal = unsafe { purse_fresh(store.as_mut_ptr(), store.len()) };
-    Refusal::from_number(refusal).map_or(Ok(()), Err)
+    done(refusal)
 }
 
 /// The context of a return state on top of each stack of the parent; that of the empty mark is 0.
@@ -105,6 +112,109 @@ pub fn parent(
     Ok(found.map(|parent| ContextId(u32::try_from(parent).expect("a parent is a context number"))))
 }
 
+/// Writes a set without configs over any words.
+pub fn fresh_set(set: &mut [u32], full_context: bool) -> Result<(), Refusal> {
+    // SAFETY: the pointer and the length are those of one exclusive slice, which outlives the call.
+    let refusal = unsafe { purse_fresh_set(set.as_mut_ptr(), set.len(), u32::from(!full_context)) };
+    done(refusal)
+}
+
+/// Adds a config: merged into the one of the same key, where the set has one, and otherwise put last. Was it
+/// put last?
+pub fn add(
+    store: &mut [u32],
+    set: &mut [u32],
+    scratch: &mut [u32],
+    config: AtnConfig,
+) -> Result<bool, Refusal> {
+    let [state, alternative, context, semantic, reach, provenance] = config.words();
+    // SAFETY: each pointer and its length are those of one exclusive slice, which outlives the call.
+    let answer = unsafe {
+        purse_add(
+            store.as_mut_ptr(),
+            store.len(),
+            set.as_mut_ptr(),
+            set.len(),
+            scratch.as_mut_ptr(),
+            scratch.len(),
+            state,
+            alternative,
+            context,
+            semantic,
+            reach,
+            provenance,
+        )
+    };
+    value(answer).map(truth)
+}
+
+/// Makes a set read-only; one that is read-only stays so.
+pub fn close(store: &[u32], set: &mut [u32], scratch: &mut [u32]) -> Result<(), Refusal> {
+    // SAFETY: each pointer and its length are those of one slice, which outlives the call; the store's is
+    // only read, and the others are exclusive.
+    let refusal = unsafe {
+        purse_close(
+            store.as_ptr(),
+            store.len(),
+            set.as_mut_ptr(),
+            set.len(),
+            scratch.as_mut_ptr(),
+            scratch.len(),
+        )
+    };
+    done(refusal)
+}
+
+/// The alternative that every config has; `None` where they differ, and of a set without configs.
+pub fn unique_alt(store: &[u32], set: &[u32], scratch: &mut [u32]) -> Result<Option<Alternative>, Refusal> {
+    ask_alt(purse_unique_alt, store, set, scratch)
+}
+
+/// The alternative that is the least of every subset; `None` where they differ, and of a set without subsets.
+pub fn single_viable_alt(
+    store: &[u32],
+    set: &[u32],
+    scratch: &mut [u32],
+) -> Result<Option<Alternative>, Refusal> {
+    ask_alt(purse_single_viable_alt, store, set, scratch)
+}
+
+/// Has each subset two or more alternatives? Yes of a set without subsets.
+pub fn all_subsets_conflict(store: &[u32], set: &[u32], scratch: &mut [u32]) -> Result<bool, Refusal> {
+    ask_set(purse_all_subsets_conflict, store, set, scratch)
+}
+
+/// Have all subsets the same alternatives? Yes of a set without subsets.
+pub fn all_subsets_equal(store: &[u32], set: &[u32], scratch: &mut [u32]) -> Result<bool, Refusal> {
+    ask_set(purse_all_subsets_equal, store, set, scratch)
+}
+
+/// The verdict with these stop states, in any order and as often as may be: yes if every config is in one of
+/// them; otherwise yes exactly if some subset has two or more alternatives and no state has just one. More
+/// than 64 are refused with [`Refusal::TooManyStops`], after store and set.
+pub fn has_sll_conflict_terminating_prediction(
+    store: &[u32],
+    set: &[u32],
+    scratch: &mut [u32],
+    stops: &[u32],
+) -> Result<bool, Refusal> {
+    // SAFETY: each pointer and its length are those of one slice, which outlives the call; the scratch's is
+    // exclusive, and the others are only read.
+    let answer = unsafe {
+        purse_has_sll_conflict_terminating_prediction(
+            store.as_ptr(),
+            store.len(),
+            set.as_ptr(),
+            set.len(),
+            scratch.as_mut_ptr(),
+            scratch.len(),
+            stops.as_ptr(),
+            stops.len(),
+        )
+    };
+    value(answer).map(truth)
+}
+
 fn ask(door: Query, store: &[u32], scratch: &mut [u32], context: ContextId) -> Result<u32, Refusal> {
     // SAFETY: each pointer and its length are those of one slice, which outlives the call; the store's is
     // only read, and the scratch's is exclusive. Every `Query` is a door of the archive.
@@ -123,6 +233,33 @@ fn ask_entry(
     let answer =
         unsafe { door(store.as_ptr(), store.len(), scratch.as_mut_ptr(), scratch.len(), context.0, index) };
     entry(answer)
+}
+
+fn ask_set(door: SetQuery, store: &[u32], set: &[u32], scratch: &mut [u32]) -> Result<bool, Refusal> {
+    // SAFETY: each pointer and its length are those of one slice, which outlives the call; the scratch's is
+    // exclusive, and the others are only read. Every `SetQuery` is a door of the archive.
+    let answer = unsafe {
+        door(store.as_ptr(), store.len(), set.as_ptr(), set.len(), scratch.as_mut_ptr(), scratch.len())
+    };
+    value(answer).map(truth)
+}
+
+fn ask_alt(
+    door: AltQuery,
+    store: &[u32],
+    set: &[u32],
+    scratch: &mut [u32],
+) -> Result<Option<Alternative>, Refusal> {
+    // SAFETY: as for `ask_set`.
+    let answer = unsafe {
+        door(store.as_ptr(), store.len(), set.as_ptr(), set.len(), scratch.as_mut_ptr(), scratch.len())
+    };
+    let found = entry(answer)?;
+    Ok(found.map(|alt| Alternative(u32::try_from(alt).expect("an alternative is a word"))))
+}
+
+fn done(refusal: u32) -> Result<(), Refusal> {
+    Refusal::from_number(refusal).map_or(Ok(()), Err)
 }
 
 fn value(answer: Answer) -> Result<u32, Refusal> {
@@ -172,6 +309,90 @@ mod tests {
             // SAFETY: as above.
             let answer = unsafe { purse_singleton(words, length, cleared, SCRATCH_WORDS, 1, 7) };
             assert_eq!(answer, Answer { refusal, value: 0 });
+            let mut set = vec![0; SET_WORDS];
+            let at = set.as_mut_ptr();
+            // SAFETY: as above.
+            let answer =
+                unsafe { purse_add(words, length, at, SET_WORDS, cleared, SCRATCH_WORDS, 1, 1, 1, 1, 1, 1) };
+            assert_eq!(answer, Answer { refusal, value: 0 });
+        }
+    }
+
+    /// A set of one config over a context, in the words of a store of context 0 alone.
+    fn store_and_set(context: u32) -> (Vec<u32>, Vec<u32>) {
+        let (mut store, mut set) = (vec![0; STORE_WORDS], vec![0; SET_WORDS]);
+        store[0] = 1;
+        set[0] = 1;
+        set[4] = context;
+        (store, set)
+    }
+
+    /// Nor does one of a question about a set, by a store's length, a store, a set or the stop states.
+    #[test]
+    fn a_refused_question_carries_nothing_else() {
+        let (store, set) = store_and_set(0);
+        let (empty, unsound) = (vec![0; STORE_WORDS], store_and_set(1).1);
+        let refused = [(&store[1..], &set[..], 2), (&empty[..], &set[..], 1), (&store[..], &unsound[..], 3)];
+        let mut scratch = vec![7; SCRATCH_WORDS];
+        let at = scratch.as_mut_ptr();
+        for (store, set, refusal) in refused {
+            let (words, length, configs) = (store.as_ptr(), store.len(), set.as_ptr());
+            for door in [purse_all_subsets_conflict as SetQuery, purse_all_subsets_equal] {
+                // SAFETY: the pointers and lengths are those of slices that outlive the call.
+                let answer = unsafe { door(words, length, configs, SET_WORDS, at, SCRATCH_WORDS) };
+                assert_eq!(answer, Answer { refusal, value: 0 });
+            }
+            for door in [purse_unique_alt as AltQuery, purse_single_viable_alt] {
+                // SAFETY: as above.
+                let answer = unsafe { door(words, length, configs, SET_WORDS, at, SCRATCH_WORDS) };
+                assert_eq!(answer, EntryAnswer { refusal, found: 0, value: 0 });
+            }
+        }
+        for (store, set, refusal) in refused.into_iter().chain([(&store[..], &set[..], 10)]) {
+            let (words, configs, stops) = (store.as_ptr(), set.as_ptr(), [0; MOST_STOPS + 1]);
+            // SAFETY: as above.
+            let answer = unsafe {
+                purse_has_sll_conflict_terminating_prediction(
+                    words,
+                    store.len(),
+                    configs,
+                    SET_WORDS,
+                    at,
+                    SCRATCH_WORDS,
+                    stops.as_ptr(),
+                    stops.len(),
+                )
+            };
+            assert_eq!(answer, Answer { refusal, value: 0 });
+        }
+    }
+
+    /// Alternative 0 is found; none carries nothing else.
+    #[test]
+    fn alternative_0_and_none() {
+        let (store, one) = store_and_set(0);
+        let none = vec![0; SET_WORDS];
+        let mut scratch = vec![7; SCRATCH_WORDS];
+        for (set, found) in [(one, 1), (none, 0)] {
+            for door in [purse_unique_alt as AltQuery, purse_single_viable_alt] {
+                // SAFETY: the pointers and lengths are those of vectors that outlive the call.
+                let answer = unsafe {
+                    let scratch = scratch.as_mut_ptr();
+                    door(store.as_ptr(), STORE_WORDS, set.as_ptr(), SET_WORDS, scratch, SCRATCH_WORDS)
+                };
+                assert_eq!(answer, EntryAnswer { refusal: 0, found, value: 0 });
+            }
+        }
+    }
+
+    /// Mode 0 is full-context, any other number is not.
+    #[test]
+    fn modes_of_a_fresh_set() {
+        for (mode, flags) in [(0, 1), (1, 0), (2, 0), (1 << 31, 0), (u32::MAX, 0)] {
+            let mut set = vec![7; SET_WORDS];
+            // SAFETY: the pointer and the length are those of a vector that outlives the call.
+            assert_eq!(unsafe { purse_fresh_set(set.as_mut_ptr(), SET_WORDS, mode) }, 0);
+            assert_eq!(set[..2], [0, flags], "mode {mode}");
         }
     }
 

@@ -3,7 +3,7 @@
 use std::error::Error;
 use std::fmt;
 
-/// Document 01's refusals of calls on a store, in the order of checking.
+/// Document 01's refusals of calls on a store and on a config set, in the order of checking.
 #[derive(Clone, Copy, Debug, Eq, Hash, PartialEq)]
 #[non_exhaustive]
 pub enum Refusal {
@@ -11,10 +11,18 @@ pub enum Refusal {
     WrongLength,
     /// The store is not sound.
     UnsoundStore,
+    /// The config set is not sound, or has a context that the store does not have.
+    UnsoundSet,
+    /// More than 64 stop states.
+    TooManyStops,
+    /// A config for a set that is read-only.
+    ReadOnlySet,
     /// A context number is not below the store's count.
     UnknownContext,
     /// A return state from 4294967295 to 18446744073709551614.
     StateOutOfRange,
+    /// A config with a new key for a set of 256.
+    FullSet,
     /// The call would end above 512 contexts or 2,048 pool entries.
     FullStore,
 }
@@ -25,8 +33,12 @@ impl Refusal {
         match self {
             Refusal::WrongLength => 2,
             Refusal::UnsoundStore => 1,
+            Refusal::UnsoundSet => 3,
+            Refusal::TooManyStops => 10,
+            Refusal::ReadOnlySet => 7,
             Refusal::UnknownContext => 4,
             Refusal::StateOutOfRange => 5,
+            Refusal::FullSet => 8,
             Refusal::FullStore => 6,
         }
     }
@@ -37,10 +49,14 @@ impl Refusal {
             0 => None,
             1 => Some(Refusal::UnsoundStore),
             2 => Some(Refusal::WrongLength),
+            3 => Some(Refusal::UnsoundSet),
             4 => Some(Refusal::UnknownContext),
             5 => Some(Refusal::StateOutOfRange),
             6 => Some(Refusal::FullStore),
-            other => unreachable!("the library's contracts give no refusal {other} on a store"),
+            7 => Some(Refusal::ReadOnlySet),
+            8 => Some(Refusal::FullSet),
+            10 => Some(Refusal::TooManyStops),
+            other => unreachable!("the library's contracts give no refusal {other} here"),
         }
     }
 }
@@ -50,8 +66,12 @@ impl fmt::Display for Refusal {
         let why = match self {
             Refusal::WrongLength => "a lent slice has a wrong length",
             Refusal::UnsoundStore => "the store is not sound",
+            Refusal::UnsoundSet => "the config set is not sound in this store",
+            Refusal::TooManyStops => "there are more than 64 stop states",
+            Refusal::ReadOnlySet => "the config set is read-only",
             Refusal::UnknownContext => "a context number is not below the count",
             Refusal::StateOutOfRange => "a return state is too large to be stored",
+            Refusal::FullSet => "the config set has no room",
             Refusal::FullStore => "the store has no room",
         };
         write!(out, "refusal {}: {why}", self.number())

@@ -60,8 +60,12 @@ fn refusals_are_errors() {
     let numbers = [
         (Refusal::WrongLength, 2),
         (Refusal::UnsoundStore, 1),
+        (Refusal::UnsoundSet, 3),
+        (Refusal::TooManyStops, 10),
+        (Refusal::ReadOnlySet, 7),
         (Refusal::UnknownContext, 4),
         (Refusal::StateOutOfRange, 5),
+        (Refusal::FullSet, 8),
         (Refusal::FullStore, 6),
     ];
     for (refusal, number) in numbers {

@@ -1,21 +1,83 @@
-//! The runtime's own code beside the crate, over generated scripts: replies, and the words at the end.
+//! The runtime's own code beside the crate, over generated scripts: replies, and the words.
 
-use oracle::generate;
+use std::collections::BTreeSet;
+
+use oracle::generate::{self, Made};
 use oracle::prediction::driver::Machine;
-use oracle::record::{Kinds, Mode, Record, split};
-use oracle::reply::Reply;
-use pursecricket::{ContextArena, ContextId, Refusal, ReturnState};
+use oracle::record::{Config, Kinds, Mode, Record, split};
+use oracle::reply::{Reply, Verdict};
+use pursecricket::{
+    Alternative, AtnConfig, AtnConfigSet, ContextArena, ContextId, Refusal, ReturnState, SemanticContextId,
+};
 
-fn call(arena: &mut ContextArena, record: &Record) -> Result<Reply, Refusal> {
-    match *record {
-        Record::Singleton { parent, state } => arena.singleton(ContextId(parent), ReturnState(state)),
-        Record::Merge { left, right, mode } => {
-            arena.merge(ContextId(left), ContextId(right), mode == Mode::Wildcard)
-        }
-        Record::Show { context } => return shown(arena, ContextId(context)).map(Reply::Entries),
-        _ => unreachable!("a record of the store"),
+/// The crate's side of a script: what the oracle's machine holds, as it stands at the start.
+struct Port {
+    arena: ContextArena,
+    set: AtnConfigSet,
+    stops: Vec<u32>,
+}
+
+impl Port {
+    fn new() -> Self {
+        let set = AtnConfigSet::new_full_context(true);
+        Port { arena: ContextArena::new(), set, stops: Vec::new() }
     }
-    .map(|context| Reply::Context(context.0))
+
+    fn call(&mut self, record: &Record) -> Result<Reply, Refusal> {
+        let Port { arena, set, stops } = self;
+        let context = match *record {
+            Record::Singleton { parent, state } => arena.singleton(ContextId(parent), ReturnState(state)),
+            Record::Merge { left, right, mode } => {
+                arena.merge(ContextId(left), ContextId(right), mode == Mode::Wildcard)
+            }
+            Record::Show { context } => return shown(arena, ContextId(context)).map(Reply::Entries),
+            Record::NewSet { mode } => {
+                *set = AtnConfigSet::new_full_context(mode == Mode::Full);
+                return Ok(Reply::NewSet);
+            }
+            Record::Add(config) => {
+                return set.add(given(config), arena).map(|inserted| Reply::Added { inserted });
+            }
+            Record::Close => return set.close(arena).map(|()| Reply::Closed),
+            // A list that no verdict takes is not held.
+            Record::Stops(ref states) => {
+                set.has_sll_conflict_terminating_prediction(arena, states)?;
+                stops.clone_from(states);
+                return Ok(Reply::Stops(stops.len()));
+            }
+            Record::Verdict => return self.verdict().map(Reply::Verdict),
+        };
+        context.map(|context| Reply::Context(context.0))
+    }
+
+    fn verdict(&self) -> Result<Verdict, Refusal> {
+        let Port { arena, set, stops } = self;
+        // Subsets have no call yet: they are as many as pairs of state and context.
+        let places: BTreeSet<(u32, ContextId)> =
+            set.configs().map(|config| (config.state, config.context)).collect();
+        Ok(Verdict {
+            subsets: places.len(),
+            unique: set.unique_alt(arena)?.map(|alt| alt.0),
+            viable: set.single_viable_alt(arena)?.map(|alt| alt.0),
+            terminates: set.has_sll_conflict_terminating_prediction(arena, stops)?,
+        })
+    }
+
+    /// What the two questions say that no script asks: do all subsets conflict, are all equal?
+    fn of_all_subsets(&self) -> Result<[bool; 2], Refusal> {
+        Ok([self.set.all_subsets_conflict(&self.arena)?, self.set.all_subsets_equal(&self.arena)?])
+    }
+}
+
+fn given(config: Config) -> AtnConfig {
+    AtnConfig {
+        state: config.state,
+        alt: Alternative(config.alternative),
+        context: ContextId(config.context),
+        semantic_context: SemanticContextId(config.semantic),
+        reaches_into_outer_context: config.reach,
+        semantic_provenance_and_flags: config.provenance,
+    }
 }
 
 /// Each entry's state and parent; `None` is the empty stack.
@@ -31,17 +93,49 @@ fn shown(arena: &ContextArena, context: ContextId) -> Result<Vec<Option<(u32, u3
     (0..arena.len(context)?).map(entry).collect()
 }
 
+/// How many configs were added, and verdicts given.
+#[derive(Default)]
+struct Tally {
+    added: usize,
+    verdicts: usize,
+}
+
+/// Runs a script on both sides: every reply, the set's words after every record, the store's at the end.
+fn compare(made: &Made, kinds: Kinds, index: u64, tally: &mut Tally) {
+    let (records, _) = split(&made.script, kinds);
+    let (mut machine, mut port) = (Machine::new(), Port::new());
+    for (at, record) in records.iter().enumerate() {
+        let what = || format!("script {index}, '{}', record {at}: {record:?}", made.family);
+        let theirs = machine.call(record).map_err(|refusal| u32::from(refusal.0));
+        let ours = port.call(record).map_err(Refusal::number);
+        assert_eq!(ours, theirs, "{}", what());
+        if matches!(record, Record::NewSet { .. } | Record::Add(_) | Record::Close) {
+            assert!(port.set.words() == machine.set_words(), "{}: the set", what());
+        }
+        if matches!(record, Record::Verdict) {
+            let theirs = [machine.all_subsets_conflict(), machine.all_subsets_equal()];
+            assert_eq!(port.of_all_subsets(), Ok(theirs), "{}", what());
+        }
+        tally.added += usize::from(matches!(ours, Ok(Reply::Added { .. })));
+        tally.verdicts += usize::from(matches!(ours, Ok(Reply::Verdict(_))));
+    }
+    assert!(port.set.words() == machine.set_words(), "script {index}, '{}': the set", made.family);
+    assert!(port.arena.words() == machine.store_words(), "script {index}, '{}': the store", made.family);
+}
+
 #[test]
 fn generated_scripts() {
     for index in 0..2_000 {
-        let made = generate::script(29, index, Kinds::Store);
-        let (records, _) = split(&made.script, Kinds::Store);
-        let (mut machine, mut arena) = (Machine::new(), ContextArena::new());
-        for (at, record) in records.iter().enumerate() {
-            let theirs = machine.call(record).map_err(|refusal| u32::from(refusal.0));
-            let ours = call(&mut arena, record).map_err(Refusal::number);
-            assert_eq!(ours, theirs, "script {index}, '{}', record {at}: {record:?}", made.family);
-        }
-        assert!(arena.words() == machine.store_words(), "script {index}, '{}'", made.family);
+        compare(&generate::script(29, index, Kinds::Store), Kinds::Store, index, &mut Tally::default());
     }
+}
+
+#[test]
+fn generated_scripts_of_sets() {
+    let mut tally = Tally::default();
+    for index in 0..20_000 {
+        compare(&generate::script_about_sets(33, index), Kinds::All, index, &mut tally);
+    }
+    assert!(tally.added > 300_000, "only {} configs", tally.added);
+    assert!(tally.verdicts > 50_000, "only {} verdicts", tally.verdicts);
 }

@@ -7,6 +7,8 @@ use Rattle.store.specs.Calls.{refused}
 use Rattle.answers.specs.declared.structs.Answer.{Answer}
 use Rattle.answers.specs.declared.structs.EntryAnswer.{EntryAnswer}
 use Rattle.sets.specs.Calls.{refused as notDone}
+use Rattle.verdicts.specs.Calls.{refused as notSaid}
+use Rattle.answers.specs.VerdictAnswers.{verdictNumberOf, verdictValueOf, verdictFoundOf, verdictAnswerOf, altAnswerOf}
 use Rattle.answers.specs.SetAnswers.{setNumberOf, setValueOf, setAnswerOf}
 use Rattle.answers.specs.Answers.{numberOf, valueOf, foundOf, answerOf, entryOf}
 
@@ -31,3 +33,13 @@ module _ (f : Refusal) where
 pub refused-set-answer : (f : Refusal) (a : Answer) → a .refusal ≡ number f → a .value ≡ 0 → a ≡ setAnswerOf (notDone (number f))
 unfolding setNumberOf setValueOf
 refused-set-answer f a n v = same-answers (a .refusal) (number f) (a .value) 0 n v
+
+-- the same of a call on a set's subsets
+module _ (f : Refusal) where
+  pub refused-verdict-answer : (a : Answer) → a .refusal ≡ number f → a .value ≡ 0 → a ≡ verdictAnswerOf (notSaid (number f))
+  unfolding verdictNumberOf verdictValueOf
+  refused-verdict-answer a n v = same-answers (a .refusal) (number f) (a .value) 0 n v
+
+  pub refused-alt-answer : (a : EntryAnswer) → a .refusal ≡ number f → a .found ≡ 0 → a .value ≡ 0 → a ≡ altAnswerOf (notSaid (number f))
+  unfolding verdictNumberOf verdictValueOf verdictFoundOf
+  refused-alt-answer a n e v = same-entries (a .refusal) (number f) (a .found) 0 (a .value) 0 n e v

@@ -4,9 +4,10 @@ use mathlib.Core.List.{List}
 use Prim.Native.Nat.{ℕ}
 use Rattle.store.specs.Calls.{Reply, Left, leaves, freshCall}
 use mathlib.Core.Bool.{Bool}
+use Rattle.verdicts.specs.Calls.{VerdictReply, VerdictLeft, verdictLeft}
 use Rattle.sets.specs.Calls.{SetReply, SetLeft, setLeft, freshSetCall}
 use Rattle.answers.specs.SetAnswers.{setNumberOf}
-use Rattle.purse.specs.Doors.{OpensSet, Opens}
+use Rattle.purse.specs.Doors.{OpensSet, OpensVerdict, Opens}
 use Rattle.answers.specs.Answers.{numberOf}
 
 -- a struct for the reply x beside the words that the call left
@@ -43,3 +44,16 @@ pub set-door-determined : {A : Type 0} (of : SetReply → A) (x : SetLeft) (a b 
     → (a ≡ b) × (w ≡ u) × (v ≡ t) × (z ≡ y)
 set-door-determined of x a b w v z u t y p q =
     (p .answer ∙ sym (q .answer), p .store ∙ sym (q .store), p .set ∙ sym (q .set), p .scratch ∙ sym (q .scratch))
+
+-- ---- the same of a call on a set's subsets
+
+pub verdict-door : {A : Type 0} (of : VerdictReply → A) (a : A) (x : VerdictReply) (z o : List ℕ) (l : VerdictLeft) → a ≡ of x → verdictLeft x z o ≡ l → OpensVerdict of l a z o
+verdict-door of a x z o l h e = record {
+  answer = h ∙ ap (λ (y : VerdictLeft). of (y .reply)) e;
+  scratch = ap (λ (y : VerdictLeft). y .scratch) e;
+  output = ap (λ (y : VerdictLeft). y .output) e;
+}
+
+pub verdict-door-determined : {A : Type 0} (of : VerdictReply → A) (x : VerdictLeft) (a b : A) (z o y p : List ℕ) → OpensVerdict of x a z o → OpensVerdict of x b y p
+    → (a ≡ b) × (z ≡ y) × (o ≡ p)
+verdict-door-determined of x a b z o y p f g = (f .answer ∙ sym (g .answer), f .scratch ∙ sym (g .scratch), f .output ∙ sym (g .output))

@@ -6,7 +6,9 @@ use crate::inner::keys::find_key;
 use crate::inner::keys::key_bucket;
 use crate::inner::keys::link_key;
 use crate::inner::places::CONFIG_WORDS;
+use crate::inner::places::DECIDED_FLAGS;
 use crate::inner::places::FIRST_CONFIG;
+use crate::inner::places::FLAGS_END;
 use crate::inner::places::KEY_HEADS;
 use crate::inner::places::KEY_LINKS;
 use crate::inner::places::MOST_CONFIGS;
@@ -20,7 +22,7 @@ ghost use lib.ListN.{length};
 ghost use Rattle.layout.specs.Layout.{scratchWords};
 ghost use Rattle.sets.specs.Layout.{configAt, mostConfigs, setWordsLength};
 ghost use Rattle.setcheck.specs.Configs.{configOf};
-ghost use Rattle.setcheck.specs.Judged.{AllJudged, Judged, Passed, SetVerdict};
+ghost use Rattle.setcheck.specs.Judged.{JudgedConfigs, JudgedConfig, PassedConfigs, SetVerdict};
 
 // The flags that the configs ask for, or a config that is not sound.
 pub enum Checked {
@@ -36,8 +38,8 @@ fn check_config(
     place: usize,
     config: AtnConfig,
 ) -> bool
-    requires { ⌜ Passed (now set) (now scratch) contexts place × (place < mostConfigs) × (configOf config ≡ configAt (now set) place) ⌝ }
-    ensures { λ r. ⌜ Judged (now (set .entry)) (now (scratch .entry)) contexts place r (now (scratch .exit)) ⌝ }
+    requires { ⌜ PassedConfigs (now set) (now scratch) contexts place × (place < mostConfigs) × (configOf config ≡ configAt (now set) place) ⌝ }
+    ensures { λ r. ⌜ JudgedConfig (now (set .entry)) (now (scratch .entry)) contexts place r (now (scratch .exit)) ⌝ }
 {
     if contexts <= config.context.0 {
         return false;
@@ -53,8 +55,8 @@ fn check_config(
 
 // Judges the configs, the first to the last.
 fn check_configs(set: &[u32], scratch: &mut [u32], contexts: u32, count: usize) -> Checked
-    requires { ⌜ Passed (now set) (now scratch) contexts 0 × (count ≤ mostConfigs) ⌝ }
-    ensures { λ r. ⌜ AllJudged (now (set .entry)) (now (scratch .entry)) contexts count r (now (scratch .exit)) ⌝ }
+    requires { ⌜ PassedConfigs (now set) (now scratch) contexts 0 × (count ≤ mostConfigs) ⌝ }
+    ensures { λ r. ⌜ JudgedConfigs (now (set .entry)) (now (scratch .entry)) contexts count r (now (scratch .exit)) ⌝ }
 {
     let mut flags: u32 = 0;
     let mut place = 0;
@@ -84,10 +86,10 @@ pub fn check_set(set: &[u32], scratch: &mut [u32], contexts: u32) -> bool
         return false;
     };
     let held = flag_word(set);
-    if 16 <= held {
+    if FLAGS_END <= held {
         return false;
     }
-    if held & 6 != flags {
+    if held & DECIDED_FLAGS != flags {
         return false;
     }
     words::all_zero(set, FIRST_CONFIG + CONFIG_WORDS * count, SET_WORDS)

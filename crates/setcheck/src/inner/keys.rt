@@ -12,7 +12,7 @@ ghost use Rattle.sets.specs.Chains.{last};
 ghost use Rattle.sets.specs.Layout.{mostConfigs};
 ghost use Rattle.sets.specs.Sets.{key, sameKey};
 ghost use Rattle.setcheck.specs.Configs.{configOf};
-ghost use Rattle.setcheck.specs.Keys.{Sought, bucketOf, hasKey, placeOf, putKey};
+ghost use Rattle.setcheck.specs.Keys.{SoughtKey, keyBucket, hasKey, placeOf, putKey};
 
 // Where a set has a key.
 pub enum KeyPlace {
@@ -39,7 +39,7 @@ pub fn same_key(one: AtnConfig, other: AtnConfig) -> bool
 
 // The bucket of a config's key: 8 bits of a product.
 pub fn key_bucket(config: AtnConfig) -> usize
-    ensures { λ r. ⌜ (r ≡ bucketOf (key (configOf config))) × (r < 256) ⌝ }
+    ensures { λ r. ⌜ (r ≡ keyBucket (key (configOf config))) × (r < 256) ⌝ }
 {
     let state = config.state as u64;
     let alternative = config.alt.0 as u64;
@@ -57,7 +57,7 @@ pub fn find_key(
     config: AtnConfig,
     bucket: usize,
 ) -> KeyPlace
-    requires { ⌜ Sought (now set) (now scratch) count (configOf config) bucket ⌝ }
+    requires { ⌜ SoughtKey (now set) (now scratch) count (configOf config) bucket ⌝ }
     ensures { λ r. ⌜ placeOf r ≡ last (hasKey (now (set .entry)) (configOf config)) count ⌝ }
 {
     let mut next = scratch[KEY_HEADS + bucket];

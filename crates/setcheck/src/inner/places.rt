@@ -31,6 +31,12 @@ pub const DIPS: u32 = 4;
 
 pub const READ_ONLY: u32 = 8;
 
+// The flags that the configs decide.
+pub const DECIDED_FLAGS: u32 = 6;
+
+// What every sound word of flags is below.
+pub const FLAGS_END: u32 = 16;
+
 // Heads and links of the chains.
 pub const KEY_HEADS: usize = 1792;
 

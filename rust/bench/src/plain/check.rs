@@ -1,6 +1,7 @@
 //! One pass that judges a store's words and indexes its contexts.
 
 use super::index::{add, array_hash, clear_heads, find, hash_of, singleton_hash};
+use super::merge::same_array;
 use super::{
     ARRAY, DOLLAR, MOST_CONTEXTS, MOST_ENTRIES, PARENTS, RECORDS, SINGLETON, STATES, Scratch, Store, record,
 };
@@ -71,16 +72,6 @@ fn check_array(store: &Store, scratch: &Scratch, context: usize, first: usize, e
     }
 }
 
-fn same_array(store: &Store, other: usize, parents: &[u32], states: &[u32]) -> bool {
-    let [kind, first, length] = record(store, other);
-    if kind != ARRAY || length as usize != parents.len() {
-        return false;
-    }
-    let (first, length) = (first as usize, length as usize);
-    store[PARENTS + first..PARENTS + first + length] == *parents
-        && store[STATES + first..STATES + first + length] == *states
-}
-
-fn all_zero(words: &[u32]) -> bool {
+pub fn all_zero(words: &[u32]) -> bool {
     words.iter().fold(0, |seen, word| seen | word) == 0
 }

@@ -2,11 +2,15 @@
 
 mod check;
 mod index;
+mod merge;
+mod results;
+mod sets;
 #[cfg(test)]
 mod tests;
 
 use check::check;
 use index::{find, hash_of, singleton_hash};
+pub use sets::add;
 
 const MOST_CONTEXTS: usize = 512;
 const MOST_ENTRIES: usize = 2_048;

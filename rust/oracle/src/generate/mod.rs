@@ -69,7 +69,12 @@ pub struct Made {
 
 /// The script of this seed and index; it uses no known record outside `kinds`.
 pub fn script(seed: u64, index: u64, kinds: Kinds) -> Made {
-    script_of(family_at(index, kinds), seed, index, kinds)
+    script_of(family_at(index, |family| family.fits(kinds)), seed, index, kinds)
+}
+
+/// The same, of the families about config sets alone.
+pub fn script_about_sets(seed: u64, index: u64) -> Made {
+    script_of(family_at(index, |family| family.with_sets), seed, index, Kinds::All)
 }
 
 /// The same, of a given family.
@@ -86,14 +91,14 @@ impl Family {
     }
 }
 
-/// Families take turns, by their shares, so that every stretch of indices has them all.
-fn family_at(index: u64, kinds: Kinds) -> &'static Family {
-    let fits = |family: &&Family| family.fits(kinds);
-    let round: usize = FAMILIES.iter().filter(fits).map(|family| family.share).sum();
+/// The families that fit take turns, by their shares, so that every stretch of indices has them all.
+fn family_at(index: u64, fits: impl Fn(&Family) -> bool) -> &'static Family {
+    let families = || FAMILIES.iter().filter(|family| fits(family));
+    let round: usize = families().map(|family| family.share).sum();
     // A step that shares no factor with the round visits each slot once, neighbours far apart.
     let step = (round / 2..).find(|&step| gcd(step, round) == 1).unwrap_or(1);
     let mut slot = (index % round as u64) as usize * step % round;
-    for family in FAMILIES.iter().filter(fits) {
+    for family in families() {
         if slot < family.share {
             return family;
         }

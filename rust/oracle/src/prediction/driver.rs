@@ -5,7 +5,8 @@
 
 use super::{
     AtnConfig, AtnConfigKey, AtnConfigSet, ContextArena, ContextId, EMPTY_RETURN_STATE, PredictionWorkspace,
-    SemanticContextId, has_sll_conflict_terminating_prediction, single_viable_alt,
+    SemanticContextId, all_subsets_conflict, all_subsets_equal, has_sll_conflict_terminating_prediction,
+    single_viable_alt,
 };
 use crate::record::{Config, Mode, Record};
 use crate::reply::{
@@ -134,6 +135,14 @@ impl Machine {
         added.map(|inserted| Reply::Added { inserted })
     }
 
+    /// The runtime's own `add`, of a known context to an open set, with nothing judged around it: to be timed.
+    pub fn add_alone(&mut self, config: &Config) -> bool {
+        let config = self.config(config, ContextId(config.context));
+        let Machine { arena, set, workspace, .. } = self;
+        workspace.reset();
+        set.add(config, arena, workspace)
+    }
+
     fn set_stops(&mut self, states: &[u32]) -> Result<Reply, Refusal> {
         if states.len() > MOST_STOPS {
             return Err(TOO_MANY_STOPS);
@@ -144,14 +153,29 @@ impl Machine {
 
     fn verdict(&mut self) -> Verdict {
         let subsets = self.set.conflicting_alt_subsets();
-        let stops = &self.stops;
-        let is_stop = |state: usize| stops.iter().any(|&stop| narrow(state) == stop);
         Verdict {
             subsets: subsets.len(),
             viable: single_viable_alt(&subsets).map(narrow),
-            terminates: has_sll_conflict_terminating_prediction(&self.set, is_stop),
+            terminates: self.verdict_alone(),
             unique: self.set.unique_alt().map(narrow),
         }
+    }
+
+    /// The runtime's own verdict on the set, with nothing beside it: to be timed.
+    pub fn verdict_alone(&self) -> bool {
+        let stops = &self.stops;
+        let is_stop = |state: usize| stops.iter().any(|&stop| narrow(state) == stop);
+        has_sll_conflict_terminating_prediction(&self.set, is_stop)
+    }
+
+    /// Do all subsets of the set conflict?
+    pub fn all_subsets_conflict(&self) -> bool {
+        all_subsets_conflict(&self.set.conflicting_alt_subsets())
+    }
+
+    /// Are all subsets of the set equal?
+    pub fn all_subsets_equal(&self) -> bool {
+        all_subsets_equal(&self.set.conflicting_alt_subsets())
     }
 
     fn show(&self, context: u32) -> Result<Reply, Refusal> {

@@ -1,6 +1,9 @@
 //! Runs a call through the crate and holds what it leaves against the judge: the reply and every word.
 #![allow(dead_code)]
 
+pub mod sets;
+pub mod verdicts;
+
 use std::fmt::Display;
 
 use judge::layout::{SCRATCH_WORDS, narrow};
@@ -56,13 +59,13 @@ pub fn agree(lent: &Lent, call: &Call, scratch: &[u32], what: &dyn Display) -> O
     let port = run(call, lent.words(), scratch);
     let judged = lent.outcome(call, scratch);
     assert_eq!(port.reply, judged.reply, "{what}: {call:?}");
-    assert_words(&port.store, &judged.store, &format!("{what}: the store after {call:?}"));
-    assert_words(&port.scratch, &judged.scratch, &format!("{what}: the scratch after {call:?}"));
+    assert_words(&port.store, &judged.store, &format_args!("{what}: the store after {call:?}"));
+    assert_words(&port.scratch, &judged.scratch, &format_args!("{what}: the scratch after {call:?}"));
     judged
 }
 
 /// Names the first word that differs, not all of them.
-fn assert_words(port: &[u32], judged: &[u32], what: &str) {
+fn assert_words(port: &[u32], judged: &[u32], what: &dyn Display) {
     assert_eq!(port.len(), judged.len(), "{what}");
     if port == judged {
         return;

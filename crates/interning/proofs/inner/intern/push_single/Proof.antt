@@ -61,7 +61,8 @@ add-to-index-requires c κs =
 
 returns-2 : tie.Need-returns-2
 returns-2 c =
-    let pre = c .before .before .before .before .before .before .before .before .before .before .before .before .before .before .before .before .before .before .before .before .before .before .before .pre in
+    let pre = c .before .before .before .before .before .before .before .before .before .before .before
+    .before .before .before .before .before .before .before .before .before .before .before .before .pre in
     let count-of = c .before .before .before .before .before .before .before .before .before .before .before .before .before .before .before .before .before .before .before .count-of in
     let used-of = c .before .before .before .before .before .before .before .before .before .before .before .before .before .before .before .before .before .used-of in
     let if1 = c .before .before .before .before .before .before .before .before .before .before .before .before .before .before .before .before .if1 in

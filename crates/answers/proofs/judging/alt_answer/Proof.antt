@@ -1,0 +1,29 @@
+-- By cases.
+use borrow.Author.Needs.{needs}
+use mathlib.Core.Path.{refl}
+use Rattle.answers.specs.Answers.Laws.{refused-alt-answer}
+use Rattle.answers.specs.VerdictAnswers.{verdictNumberOf, verdictValueOf, verdictFoundOf}
+use Rattle.answers.proofs.judging.alt_answer.Statement.{statement}
+use Rattle.answers.proofs.judging.alt_answer.Tie as tie
+
+returns : tie.Need-returns
+unfolding verdictNumberOf verdictValueOf verdictFoundOf
+returns c = rw (c .before .before .answer .given .1) refl
+
+returns-2 : tie.Need-returns-2
+unfolding verdictNumberOf verdictValueOf verdictFoundOf
+returns-2 c = rw (c .enum-told .given .1) refl
+
+returns-3 : tie.Need-returns-3
+returns-3 c =
+    let answer2 = c .before .before .answer2 in
+    rw (answer2 .given .1) (refused-alt-answer (answer2 .given .0 .0) (c .refusal-entry .result) (c .refusal-entry .ensures .0) (c .refusal-entry .ensures .1) (c .refusal-entry .ensures .2))
+
+pub alt-answer-spec : {M : Type 1} → statement M
+alt-answer-spec =
+    tie.close
+    (tie.spec
+    (λ c. search needs) (λ c. search needs) (λ c. search needs) (λ c. search needs) (λ c κs. search needs)
+    returns
+    returns-2
+    returns-3)

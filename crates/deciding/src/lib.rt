@@ -1,0 +1,2 @@
+// What walks over a set's configs decide of its subsets.
+pub mod inner;

@@ -1,0 +1,177 @@
+-- To believe: what a reader calls, how it names contexts, and what each call of the library answers it and leaves.
+use mathlib.Core.Path.{_≡_}
+use mathlib.Core.Bool.{Bool}
+use mathlib.Core.List.{List, [], _∷_}
+use Prim.Native.Nat.{ℕ, zero, suc}
+use lib.ListN.{length, getD, take, drop}
+use Rattle.arena.specs.Store.{Found, at, nowhere}
+use Rattle.layout.specs.Layout.{scratchWords}
+use Rattle.store.specs.Calls as Stores
+use Rattle.store.specs.Calls.{Reply, Left}
+use Rattle.interning.specs.SingletonCall.{singletonCall}
+use Rattle.contexts.specs.MergeCall.{mergeCall}
+use Rattle.queries.specs.Queries.{lenCall, isEmptyCall, hasEmptyPathCall, returnStateCall, parentCall}
+use Rattle.sets.specs.Config.{Config}
+use Rattle.sets.specs.Calls as Sets
+use Rattle.sets.specs.Calls.{SetReply, SetLeft, freshSetCall, addCall, closeCall}
+use Rattle.outputs.specs.Outputs.{subsetsLength, altsLength}
+use Rattle.verdicts.specs.Calls as Verdicts
+use Rattle.verdicts.specs.Calls.{VerdictReply, VerdictLeft, conflictingAltSubsetsCall, conflictingAltsCall, uniqueAltCall, singleViableAltCall, allSubsetsConflictCall, allSubsetsEqualCall}
+use Rattle.verdicts.specs.Calls.{verdictCall}
+
+-- "naming a context only as 0 or as an earlier answer of its own": the k-th context among its answers, from 0 on
+pub data Name : Type 0 where
+  root : Name
+  answer : ℕ → Name
+
+pub data Call : Type 0 where
+  singleton : Name → ℕ → Call
+  merge : Name → Name → Bool → Call
+  len : Name → Call
+  isEmpty : Name → Call
+  hasEmptyPath : Name → Call
+  returnState : Name → ℕ → Call
+  parent : Name → ℕ → Call
+  freshSet : Bool → Call
+  add : ℕ → ℕ → Name → ℕ → ℕ → ℕ → Call  -- state, alternative, context, semantic id, reach, provenance
+  close : Call
+  subsets : Call
+  conflictingAlts : Call
+  uniqueAlt : Call
+  singleViableAlt : Call
+  allSubsetsConflict : Call
+  allSubsetsEqual : Call
+  verdict : List ℕ → Call  -- the stop states
+
+-- what is lent for one call besides store and set, with any contents: scratch, and words for subsets and for alternatives
+pub record Lent : Type 0 where
+  pub scratch : List ℕ
+  pub subsets : List ℕ
+  pub alternatives : List ℕ
+
+abbrev pub Sized : Lent → Type 0
+Sized L = (length (L .scratch) ≡ scratchWords) × (length (L .subsets) ≡ subsetsLength) × (length (L .alternatives) ≡ altsLength)
+
+-- ---- answers
+
+-- an answer that names no context, as it is
+pub data Plain : Type 0 where
+  ofStore : Reply → Plain
+  ofSet : SetReply → Plain
+  ofSubsets : VerdictReply → Plain
+  words : List ℕ → Plain
+  unnamed : Plain  -- the name is of no answer yet: no call is made
+
+-- a subset, and an answer, with contexts of any sort: numbers as the library gives them, sets of stacks as a reader sees them
+pub record Part (C : Type 0) : Type 0 where
+  pub state : ℕ
+  pub context : C
+  pub alternatives : List ℕ
+
+abbrev pub part : {C : Type 0} → ℕ → C → List ℕ → Part C
+part q c l = record { state = q; context = c; alternatives = l }
+
+pub data Got (C : Type 0) : Type 0 where
+  refused : ℕ → Got C
+  context : C → Got C
+  groups : List (Part C) → Got C
+  plain : Plain → Got C
+
+unfoldable pub told : Reply → Got ℕ
+told (Stores.refused n) = refused n
+told (Stores.context c) = context c
+told Stores.done = plain (ofStore Stores.done)
+told Stores.shown = plain (ofStore Stores.shown)
+told (Stores.count n) = plain (ofStore (Stores.count n))
+told (Stores.state r) = plain (ofStore (Stores.state r))
+told (Stores.holds b) = plain (ofStore (Stores.holds b))
+told Stores.none = plain (ofStore Stores.none)
+
+unfoldable pub settled : SetReply → Got ℕ
+settled (Sets.refused n) = refused n
+settled Sets.done = plain (ofSet Sets.done)
+settled (Sets.added a) = plain (ofSet (Sets.added a))
+
+-- g is what the words hold that were written
+unfoldable pub judged : VerdictReply → Got ℕ → Got ℕ
+judged (Verdicts.refused n) g = refused n
+judged (Verdicts.says b) g = plain (ofSubsets (Verdicts.says b))
+judged (Verdicts.alternative a) g = plain (ofSubsets (Verdicts.alternative a))
+judged Verdicts.written g = g
+
+-- "group count, then per group state, context, alternative count, alternatives"
+unfoldable pub groupsFrom : ℕ → List ℕ → List (Part ℕ)
+groupsFrom zero o = []
+groupsFrom (suc n) o = part (getD o 0 0) (getD o 1 0) (take (getD o 2 0) (drop 3 o)) ∷ groupsFrom n (drop (getD o 2 0) (drop 3 o))
+
+abbrev pub groupsIn : List ℕ → List (Part ℕ)
+groupsIn o = groupsFrom (getD o 0 0) (drop 1 o)
+
+-- ---- one call
+
+-- a reader's own: its set's words, and the contexts among its answers, the oldest first
+pub record Reader : Type 0 where
+  pub set : List ℕ
+  pub answers : List ℕ
+
+-- what a call leaves: the answer, and the words of the store and of the reader's set
+pub record Done : Type 0 where
+  pub got : Got ℕ
+  pub store : List ℕ
+  pub set : List ℕ
+
+abbrev pub leaving : Got ℕ → List ℕ → List ℕ → Done
+leaving g w v = record { got = g; store = w; set = v }
+
+unfoldable pub nth : List ℕ → ℕ → Found
+nth [] k = nowhere
+nth (c ∷ cs) zero = at c
+nth (c ∷ cs) (suc k) = nth cs k
+
+abbrev pub named : List ℕ → Name → Found
+named cs root = at 0
+named cs (answer k) = nth cs k
+
+-- a call where the name is of a context, and else none
+abbrev pub calling : {A : Type 0} → A → Found → (ℕ → A) → A
+calling otherwise (at c) call = call c
+calling otherwise nowhere call = otherwise
+
+abbrev pub on : List ℕ → Reader → Name → (ℕ → Done) → Done
+on w R n call = calling (leaving (plain unnamed) w (R .set)) (named (R .answers) n) call
+
+abbrev pub onStore : Reader → Left → Done
+onStore R x = leaving (told (x .reply)) (x .store) (R .set)
+
+abbrev pub onSet : SetLeft → Done
+onSet x = leaving (settled (x .reply)) (x .store) (x .set)
+
+-- store and set stay
+abbrev pub onSubsets : List ℕ → Reader → (List ℕ → Got ℕ) → VerdictLeft → Done
+onSubsets w R read x = leaving (judged (x .reply) (read (x .output))) w (R .set)
+
+abbrev pub wordsOnly : List ℕ → Got ℕ
+wordsOnly o = plain (words o)
+
+abbrev pub config : ℕ → ℕ → ℕ → ℕ → ℕ → ℕ → Config
+config q a c m r p = record { state = q; alternative = a; context = c; semantic = m; reach = r; provenance = p }
+
+-- what reader R's call leaves, over the store w
+unfoldable pub step : Lent → List ℕ → Reader → Call → Done
+step L w R (singleton n r) = on w R n (λ c. onStore R (singletonCall w (L .scratch) c r))
+step L w R (merge n k m) = on w R n (λ a. on w R k (λ b. onStore R (mergeCall w (L .scratch) a b m)))
+step L w R (len n) = on w R n (λ c. onStore R (lenCall w (L .scratch) c))
+step L w R (isEmpty n) = on w R n (λ c. onStore R (isEmptyCall w (L .scratch) c))
+step L w R (hasEmptyPath n) = on w R n (λ c. onStore R (hasEmptyPathCall w (L .scratch) c))
+step L w R (returnState n i) = on w R n (λ c. onStore R (returnStateCall w (L .scratch) c i))
+step L w R (parent n i) = on w R n (λ c. onStore R (parentCall w (L .scratch) c i))
+step L w R (freshSet f) = let x = freshSetCall (R .set) f in leaving (settled (x .0)) w (x .1)
+step L w R (add q a n m r p) = on w R n (λ c. onSet (addCall w (R .set) (L .scratch) (config q a c m r p)))
+step L w R close = onSet (closeCall w (R .set) (L .scratch))
+step L w R subsets = onSubsets w R (λ o. groups (groupsIn o)) (conflictingAltSubsetsCall w (R .set) (L .scratch) (L .subsets))
+step L w R conflictingAlts = onSubsets w R wordsOnly (conflictingAltsCall w (R .set) (L .scratch) (L .alternatives))
+step L w R uniqueAlt = onSubsets w R wordsOnly (uniqueAltCall w (R .set) (L .scratch))
+step L w R singleViableAlt = onSubsets w R wordsOnly (singleViableAltCall w (R .set) (L .scratch))
+step L w R allSubsetsConflict = onSubsets w R wordsOnly (allSubsetsConflictCall w (R .set) (L .scratch))
+step L w R allSubsetsEqual = onSubsets w R wordsOnly (allSubsetsEqualCall w (R .set) (L .scratch))
+step L w R (verdict stops) = onSubsets w R wordsOnly (verdictCall w (R .set) (L .scratch) stops)

@@ -1,0 +1,83 @@
+-- To believe: the calls of several readers, one after another over one store made fresh once, and what each reader sees.
+use mathlib.Core.Path.{_≡_}
+use mathlib.Core.Bool.{Bool, true, false}
+use mathlib.Core.List.{List, [], _∷_, _++_, map}
+use Prim.Native.Nat.{ℕ, suc}
+use lib.Dec.{eqb}
+use Rattle.arena.specs.Store.{Store}
+use Rattle.arena.specs.Stands.{stands}
+use Rattle.layout.specs.Layout.{storeWords, blank}
+use Rattle.layout.specs.Decode.{storeOf}
+use Rattle.store.specs.Calls.{freshCall}
+use Rattle.sets.specs.Layout.{setWordsLength}
+use Rattle.sets.specs.Calls.{freshSetCall}
+use Rattle.readers.specs.Calls.{Call, Lent, part, Got, refused, context, groups, plain, Reader, Done, step}
+
+-- ---- what a reader sees
+
+-- a set of stacks, by which stacks are in it
+abbrev pub Stacks : Type 0
+Stacks = List ℕ → Bool
+
+-- an answer with each context as the stacks it stands for
+unfoldable pub see : Store → Got ℕ → Got Stacks
+see s (refused n) = refused n
+see s (context c) = context (stands s c)
+see s (groups l) = groups (map (λ g. part (g .state) (stands s (g .context)) (g .alternatives)) l)
+see s (plain p) = plain p
+
+-- the contexts in an answer, in order: they count as the reader's answers
+unfoldable pub heard : Got ℕ → List ℕ
+heard (refused n) = []
+heard (context c) = c ∷ []
+heard (groups l) = map (λ g. g .context) l
+heard (plain p) = []
+
+-- ---- runs
+
+-- something of one of the readers, who are numbered
+pub record By (A : Type 0) : Type 0 where
+  pub reader : ℕ
+  pub what : A
+
+-- a reader after its call
+abbrev pub after : Reader → Done → Reader
+after R D = record { set = D .set; answers = R .answers ++ heard (D .got) }
+
+-- the same for each reader but i, who now has a
+abbrev pub put : {A : Type 0} → (ℕ → A) → ℕ → A → ℕ → A
+put f i a j = elim (eqb j i) [ true ↦ a | false ↦ f j ]
+
+-- calls one after another over one store, the n-th with what is lent for it: what each caller sees
+unfoldable pub runFrom : (ℕ → Lent) → ℕ → List ℕ → (ℕ → Reader) → List (By Call) → List (By (Got Stacks))
+runFrom lent n w Rs [] = []
+runFrom lent n w Rs (x ∷ xs) =
+    let i = x .reader in
+    let D = step (lent n) w (Rs i) (x .what) in
+    record { reader = i; what = see (storeOf (D .store)) (D .got) } ∷ runFrom lent (suc n) (D .store) (put Rs i (after (Rs i) D)) xs
+
+-- "one store, made fresh once, each with its own, at first empty, config set"
+unfoldable pub freshStore : List ℕ
+freshStore = freshCall (blank storeWords) .1
+
+unfoldable pub starting : Reader
+starting = record { set = freshSetCall (blank setWordsLength) true .1; answers = [] }
+
+unfoldable pub run : (ℕ → Lent) → List (By Call) → List (By (Got Stacks))
+run lent xs = runFrom lent 0 freshStore (λ i. starting) xs
+
+-- ---- one reader's part
+
+abbrev pub onlyIf : {A : Type 0} → Bool → A → List A → List A
+onlyIf true x xs = x ∷ xs
+onlyIf false x xs = xs
+
+-- what is reader i's, in the same order
+unfoldable pub only : {A : Type 0} → ℕ → List (By A) → List (By A)
+only i [] = []
+only i (x ∷ xs) = onlyIf (eqb (x .reader) i) x (only i xs)
+
+-- no call lacks room
+abbrev pub Roomy : List (By (Got Stacks)) → Type 0
+Roomy [] = Unit {0}
+Roomy (x ∷ xs) = (x .what ≡ refused 6 → ⊥) × Roomy xs

@@ -1,0 +1,1 @@
+// Readers that share a store: definitions and theorems alone.

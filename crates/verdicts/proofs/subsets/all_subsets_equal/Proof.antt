@@ -1,0 +1,54 @@
+-- The checks of the set; then the answer.
+use borrow.Author.Needs.{needs}
+use mathlib.Core.Path.{_≡_, refl, ap, _∙_}
+use mathlib.Core.List.{[]}
+use Rattle.store.specs.declared.inner.admit.Admitted.the-variants.{Ready as ready, Refused}
+use Rattle.verdicts.specs.Calls.{VerdictReply, says, verdictLeft, allSubsetsEqualCall}
+use Rattle.verdicts.specs.Opened.{ready-lent, left-refused, left-answered}
+use Rattle.verdicts.proofs.subsets.all_subsets_equal.Statement.{statement}
+use Rattle.verdicts.proofs.subsets.all_subsets_equal.Tie as tie
+
+returns : tie.Need-returns
+unfolding allSubsetsEqualCall
+returns c =
+    let args-at = c .before .before .before .before .before .before .before .before .before .before .args in
+    let open-set-at = c .before .before .before .before .before .open-set in
+    let args = args-at in
+    let open-set = open-set-at in
+    let opened = c .before .opened in
+    let e : open-set .result ≡ Refused (opened .given .0 .0) = cc in
+    left-refused (args .store .now) (args .set .now) (args .scratch .now) 0 [] _ [] refl [] (opened .given .0 .0) (open-set .last .1 .1 .0) (rw e at (open-set .ensures))
+
+subsets-equal-requires : tie.Need-subsets-equal-requires
+subsets-equal-requires c κs =
+    let open-set-at = c .before .before .before .before .before .open-set in
+    let open-set = open-set-at in
+    let e : open-set .result ≡ ready = c .before .enum-told .given .1 in
+    ready-lent ((rw e at (open-set .ensures)) .0)
+
+returns-2 : tie.Need-returns-2
+unfolding allSubsetsEqualCall
+returns-2 c =
+    let far = c .before .before .before .before .before .before .before .before .before .before .before .before in
+    let args-at = far .before .before .before .before .before .before .args in
+    let clear-at = c .before .before .before .clear in
+    let enum-told-at = c .before .before .before .before .before .before .before .before .before .enum-told in
+    let open-set-at = c .before .before .before .before .before .before .before .before .before .before .before .before .before .open-set in
+    let subsets-equal-at = c .before .before .before .before .before .before .before .subsets-equal in
+    let args = args-at in
+    let clear = clear-at in
+    let enum-told = enum-told-at in
+    let open-set = open-set-at in
+    let subsets-equal = subsets-equal-at in
+    let e : open-set .result ≡ ready = enum-told .given .1 in
+    let s = rw e at (open-set .ensures) in
+    let yes = subsets-equal in
+    ap (λ (r : VerdictReply). verdictLeft r (clear .last .0) []) (c .answer .ensures ∙ ap says (yes .ensures .0))
+    ∙ left-answered (args .store .now) (args .set .now) (args .scratch .now) 0 [] _ [] refl (yes .last .1 .0) (clear .last .0) (yes .ensures .1 .lent) (clear .ensures) (open-set .last .1 .1 .0) s
+
+pub all-subsets-equal-spec : {M : Type 1} → statement M
+all-subsets-equal-spec =
+    tie.close
+    (tie.spec
+    (λ c κs. search needs) (λ c. search needs) (λ c. search needs) returns (λ c. search needs) subsets-equal-requires (λ c κs. search needs) (λ c κs. search needs)
+    (λ c. search needs) returns-2)

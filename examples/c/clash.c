@@ -1,0 +1,42 @@
+/* A clause that reads two ways: document 01's example through the C doors. Prints each answer; examples/c/clash.out has what is expected. */
+#include <stdio.h>
+
+#include "pursecricket.h"
+
+static uint32_t store[PURSE_STORE_WORDS], set[PURSE_SET_WORDS], scratch[PURSE_SCRATCH_WORDS];
+
+static purse_answer add(uint32_t state, uint32_t alternative, uint32_t context) {
+    return purse_add(store, PURSE_STORE_WORDS, set, PURSE_SET_WORDS, scratch, PURSE_SCRATCH_WORDS, state, alternative, context, 0, 0, 0);
+}
+
+static uint32_t verdict(void) {
+    return purse_has_sll_conflict_terminating_prediction(store, PURSE_STORE_WORDS, set, PURSE_SET_WORDS, scratch, PURSE_SCRATCH_WORDS, 0, 0).value;
+}
+
+int main(void) {
+    purse_fresh(store, PURSE_STORE_WORDS);
+    purse_fresh_set(set, PURSE_SET_WORDS, PURSE_FULL);
+
+    purse_answer over = purse_singleton(store, PURSE_STORE_WORDS, scratch, PURSE_SCRATCH_WORDS, 0, 42);
+    purse_answer both = purse_merge(store, PURSE_STORE_WORDS, scratch, PURSE_SCRATCH_WORDS, over.value, 0, PURSE_FULL);
+    purse_answer size = purse_len(store, PURSE_STORE_WORDS, scratch, PURSE_SCRATCH_WORDS, both.value);
+    purse_entry_answer state = purse_return_state(store, PURSE_STORE_WORDS, scratch, PURSE_SCRATCH_WORDS, both.value, 0);
+    printf("42 over 0 is context %u; merged with 0 it is context %u, with %u entries, the first %llu\n", over.value, both.value, size.value,
+           (unsigned long long)state.value);
+
+    printf("state 7 with alternatives 1 and 2 in one context, inserted: %u", add(7, 1, over.value).value);
+    printf(" %u", add(7, 2, over.value).value);
+    printf("; verdict: %u\n", verdict());
+    printf("alternative 2 again, in a wider context, merged: %u", add(7, 2, both.value).value);
+    printf("; verdict: %u\n", verdict());
+
+    purse_entry_answer unique = purse_unique_alt(store, PURSE_STORE_WORDS, set, PURSE_SET_WORDS, scratch, PURSE_SCRATCH_WORDS);
+    printf("one alternative for all: %s\n", unique.found ? "yes" : "none");
+
+    uint32_t closed = purse_close(store, PURSE_STORE_WORDS, set, PURSE_SET_WORDS, scratch, PURSE_SCRATCH_WORDS);
+    printf("closed: %u; then adding is refused with %u\n", closed, add(8, 1, 0).refusal);
+    printf("a state that no store holds is refused with %u\n",
+           purse_singleton(store, PURSE_STORE_WORDS, scratch, PURSE_SCRATCH_WORDS, 0, 4294967295u).refusal);
+    printf("a short scratch is refused with %u\n", purse_len(store, PURSE_STORE_WORDS, scratch, 5, 0).refusal);
+    return 0;
+}

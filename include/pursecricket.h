@@ -1,0 +1,95 @@
+/* The doors of Pursecricket's static library (rt staticlib purse writes target/staticlib/libpurse.a).
+   Every call is lent its words: a store is 5,634 of them, a scratch 16,384, a config set 1,538. Any contents are allowed; a refused call
+   leaves store and set as they were and the scratch all 0, but for a wrong length, which leaves the scratch too. */
+#ifndef PURSECRICKET_H
+#define PURSECRICKET_H
+
+#include <stddef.h>
+#include <stdint.h>
+
+enum { PURSE_STORE_WORDS = 5634, PURSE_SCRATCH_WORDS = 16384, PURSE_SET_WORDS = 1538, PURSE_MOST_STOPS = 64 };
+
+/* Why a call was refused; 0 where it was not. */
+enum purse_refusal {
+    PURSE_ACCEPTED = 0,
+    PURSE_UNSOUND_STORE = 1,
+    PURSE_WRONG_LENGTH = 2,
+    PURSE_UNSOUND_SET = 3,
+    PURSE_UNKNOWN_CONTEXT = 4,
+    PURSE_STATE_OUT_OF_RANGE = 5,
+    PURSE_FULL_STORE = 6,
+    PURSE_READ_ONLY_SET = 7,
+    PURSE_FULL_SET = 8,
+    PURSE_TOO_MANY_STOPS = 10
+};
+
+/* Modes of merges and of sets: 0 is full-context, every other number by wildcard. */
+enum purse_mode { PURSE_FULL = 0, PURSE_WILDCARD = 1 };
+
+/* The return state of the empty stack. */
+#define PURSE_EMPTY_STATE UINT64_MAX
+
+/* A refusal's number; where that is 0, the value. */
+typedef struct {
+    uint32_t refusal;
+    uint32_t value;
+} purse_answer;
+
+/* A refusal's number; where that is 0, 1 and the value, or 0 where there is none. */
+typedef struct {
+    uint32_t refusal;
+    uint32_t found;
+    uint64_t value;
+} purse_entry_answer;
+
+/* Makes the words a store of context 0 alone; answers a refusal's number. */
+uint32_t purse_fresh(uint32_t *store, size_t store_len);
+
+/* The context of `state` on top of each stack of `parent`; the empty state answers 0. */
+purse_answer purse_singleton(uint32_t *store, size_t store_len, uint32_t *scratch, size_t scratch_len, uint32_t parent, uint64_t state);
+
+/* The context of the merge of `left` and `right`. */
+purse_answer purse_merge(uint32_t *store, size_t store_len, uint32_t *scratch, size_t scratch_len, uint32_t left, uint32_t right, uint32_t mode);
+
+/* How many entries a context has. */
+purse_answer purse_len(const uint32_t *store, size_t store_len, uint32_t *scratch, size_t scratch_len, uint32_t context);
+
+/* 1 if a context is exactly the set of the empty stack. */
+purse_answer purse_is_empty(const uint32_t *store, size_t store_len, uint32_t *scratch, size_t scratch_len, uint32_t context);
+
+/* 1 if the empty stack is one of a context's. */
+purse_answer purse_has_empty_path(const uint32_t *store, size_t store_len, uint32_t *scratch, size_t scratch_len, uint32_t context);
+
+/* The return state of an entry; the empty state for the empty stack, none past the end. */
+purse_entry_answer purse_return_state(const uint32_t *store, size_t store_len, uint32_t *scratch, size_t scratch_len, uint32_t context, uint32_t index);
+
+/* The parent of an entry; none past the end, and for context 0 at every index. */
+purse_entry_answer purse_parent(const uint32_t *store, size_t store_len, uint32_t *scratch, size_t scratch_len, uint32_t context, uint32_t index);
+
+/* Makes the words a config set without configs; answers a refusal's number. */
+uint32_t purse_fresh_set(uint32_t *set, size_t set_len, uint32_t mode);
+
+/* Adds a config, given by its six words: 1 where it was inserted, 0 where it was merged with the one that has its key. */
+purse_answer purse_add(uint32_t *store, size_t store_len, uint32_t *set, size_t set_len, uint32_t *scratch, size_t scratch_len, uint32_t state,
+                       uint32_t alternative, uint32_t context, uint32_t semantic, uint32_t reach, uint32_t provenance);
+
+/* Makes a set read-only; answers a refusal's number. */
+uint32_t purse_close(const uint32_t *store, size_t store_len, uint32_t *set, size_t set_len, uint32_t *scratch, size_t scratch_len);
+
+/* The alternative that every config has, if there is one. */
+purse_entry_answer purse_unique_alt(const uint32_t *store, size_t store_len, const uint32_t *set, size_t set_len, uint32_t *scratch, size_t scratch_len);
+
+/* The alternative that is the smallest of every subset, if there is one. */
+purse_entry_answer purse_single_viable_alt(const uint32_t *store, size_t store_len, const uint32_t *set, size_t set_len, uint32_t *scratch, size_t scratch_len);
+
+/* 1 if every subset has two or more alternatives. */
+purse_answer purse_all_subsets_conflict(const uint32_t *store, size_t store_len, const uint32_t *set, size_t set_len, uint32_t *scratch, size_t scratch_len);
+
+/* 1 if all subsets have the same alternatives. */
+purse_answer purse_all_subsets_equal(const uint32_t *store, size_t store_len, const uint32_t *set, size_t set_len, uint32_t *scratch, size_t scratch_len);
+
+/* The verdict, with these stop states, 64 at most: 1 where the set settles the prediction. */
+purse_answer purse_has_sll_conflict_terminating_prediction(const uint32_t *store, size_t store_len, const uint32_t *set, size_t set_len,
+                                                           uint32_t *scratch, size_t scratch_len, const uint32_t *stops, size_t stops_len);
+
+#endif

@@ -1,0 +1,178 @@
+//! A config set that owns the words it lends.
+
+use std::fmt;
+
+use crate::raw::{self, SET_WORDS};
+use crate::{Alternative, AtnConfig, ContextArena, Refusal};
+
+/// Words of a set before its configs: count and flags.
+const FIRST_CONFIG: usize = 2;
+const CONFIG_WORDS: usize = 6;
+const FULL_CONTEXT: u32 = 1;
+const HAS_SEMANTIC: u32 = 2;
+
+/// At most 256 configs in order of insertion, one of each key.
+///
+/// The contexts are those of one arena, which every call is lent. With another arena a call is refused with
+/// [`Refusal::UnsoundSet`] where that has not all of them.
+///
+/// ```
+/// use pursecricket::{Alternative, AtnConfig, AtnConfigSet, ContextArena, EMPTY_CONTEXT, Refusal, ReturnState};
+///
+/// let mut arena = ContextArena::new();
+/// let seven = arena.singleton(EMPTY_CONTEXT, ReturnState(7))?;
+/// let nine = arena.singleton(EMPTY_CONTEXT, ReturnState(9))?;
+///
+/// // A new key goes last.
+/// let mut set = AtnConfigSet::new_full_context(true);
+/// assert!(set.add(AtnConfig::new(3, Alternative(1), seven), &mut arena)?);
+///
+/// // A known key is merged: the union of the contexts, the larger reach.
+/// let mut again = AtnConfig::new(3, Alternative(1), nine);
+/// again.reaches_into_outer_context = 5;
+/// assert!(!set.add(again, &mut arena)?);
+/// let merged = set.configs().next().expect("one config");
+/// assert_eq!(merged.context, arena.merge(seven, nine, false)?);
+/// assert_eq!((set.len(), merged.reaches_into_outer_context), (1, 5));
+///
+/// // A closed set takes nothing more, and nothing changes.
+/// set.close(&arena)?;
+/// let before = set.words().to_vec();
+/// assert_eq!(set.add(again, &mut arena), Err(Refusal::ReadOnlySet));
+/// assert_eq!(set.words(), before);
+/// # Ok::<(), Refusal>(())
+/// ```
+///
+/// Subsets are the configs of one state and context each, as the set of their alternatives:
+///
+/// ```
+/// use pursecricket::{Alternative, AtnConfig, AtnConfigSet, ContextArena, EMPTY_CONTEXT, Refusal};
+///
+/// let mut arena = ContextArena::new();
+/// let mut set = AtnConfigSet::new();
+/// for alt in [2, 1] {
+///     set.add(AtnConfig::new(7, Alternative(alt), EMPTY_CONTEXT), &mut arena)?;
+/// }
+///
+/// // Two alternatives in one place: more input settles nothing, and the least is taken.
+/// assert!(set.has_sll_conflict_terminating_prediction(&arena, &[])?);
+/// assert_eq!(set.single_viable_alt(&arena)?, Some(Alternative(1)));
+/// assert_eq!(set.unique_alt(&arena)?, None);
+///
+/// // State 8 has one alternative only, so reading on may settle it; unless all is at a stop.
+/// set.add(AtnConfig::new(8, Alternative(2), EMPTY_CONTEXT), &mut arena)?;
+/// assert!(!set.has_sll_conflict_terminating_prediction(&arena, &[7])?);
+/// assert!(set.has_sll_conflict_terminating_prediction(&arena, &[8, 7, 7])?);
+///
+/// // More than 64 stop states are refused.
+/// let verdict = set.has_sll_conflict_terminating_prediction(&arena, &[7; 65]);
+/// assert_eq!(verdict, Err(Refusal::TooManyStops));
+/// # Ok::<(), Refusal>(())
+/// ```
+#[derive(Clone, Eq, Hash, PartialEq)]
+pub struct AtnConfigSet {
+    words: Box<[u32]>,
+}
+
+impl AtnConfigSet {
+    /// A set without configs that is not full-context.
+    pub fn new() -> Self {
+        Self::new_full_context(false)
+    }
+
+    /// A set without configs. In a full-context one merged contexts are unions; in any other, context 0
+    /// swallows whatever it meets.
+    pub fn new_full_context(full_context: bool) -> Self {
+        let mut words = vec![0; SET_WORDS].into_boxed_slice();
+        raw::fresh_set(&mut words, full_context).expect("the length is right");
+        AtnConfigSet { words }
+    }
+
+    /// Adds a config. A new key goes last, which answers yes. For a known key the contexts are merged, the
+    /// larger reach is kept, and the mark if either has it, which answers no.
+    pub fn add(&mut self, config: AtnConfig, arena: &mut ContextArena) -> Result<bool, Refusal> {
+        let (store, scratch) = arena.lend();
+        raw::add(store, &mut self.words, scratch, config)
+    }
+
+    /// Makes the set read-only, for good: the original's `set_readonly(true)`.
+    pub fn close(&mut self, arena: &ContextArena) -> Result<(), Refusal> {
+        raw::close(arena.words(), &mut self.words, &mut arena.scratch())
+    }
+
+    /// The alternative that every config has; `None` where they differ, and of a set without configs.
+    pub fn unique_alt(&self, arena: &ContextArena) -> Result<Option<Alternative>, Refusal> {
+        raw::unique_alt(arena.words(), &self.words, &mut arena.scratch())
+    }
+
+    /// The alternative that is the least of every subset; `None` where they differ, and of a set without
+    /// configs.
+    pub fn single_viable_alt(&self, arena: &ContextArena) -> Result<Option<Alternative>, Refusal> {
+        raw::single_viable_alt(arena.words(), &self.words, &mut arena.scratch())
+    }
+
+    /// Has each subset two or more alternatives? Yes of a set without configs.
+    pub fn all_subsets_conflict(&self, arena: &ContextArena) -> Result<bool, Refusal> {
+        raw::all_subsets_conflict(arena.words(), &self.words, &mut arena.scratch())
+    }
+
+    /// Have all subsets the same alternatives? Yes of a set without configs.
+    pub fn all_subsets_equal(&self, arena: &ContextArena) -> Result<bool, Refusal> {
+        raw::all_subsets_equal(arena.words(), &self.words, &mut arena.scratch())
+    }
+
+    /// Is it settled which alternative is taken? Yes if every config is in one of these at most 64 rule stop
+    /// states; otherwise yes exactly if some subset has two or more alternatives and no state has just one.
+    pub fn has_sll_conflict_terminating_prediction(
+        &self,
+        arena: &ContextArena,
+        rule_stop_states: &[u32],
+    ) -> Result<bool, Refusal> {
+        let scratch = &mut arena.scratch();
+        raw::has_sll_conflict_terminating_prediction(arena.words(), &self.words, scratch, rule_stop_states)
+    }
+
+    /// How many configs there are.
+    pub fn len(&self) -> usize {
+        self.words[0] as usize
+    }
+
+    /// Are there none?
+    pub fn is_empty(&self) -> bool {
+        self.len() == 0
+    }
+
+    /// Are contexts merged to their unions?
+    pub fn full_context(&self) -> bool {
+        self.words[1] & FULL_CONTEXT != 0
+    }
+
+    /// Has some config a semantic context?
+    pub fn has_semantic_context(&self) -> bool {
+        self.words[1] & HAS_SEMANTIC != 0
+    }
+
+    /// The configs, in order of insertion.
+    pub fn configs(&self) -> impl DoubleEndedIterator<Item = AtnConfig> + ExactSizeIterator + '_ {
+        let (configs, _) = self.words[FIRST_CONFIG..].as_chunks::<CONFIG_WORDS>();
+        configs[..self.len()].iter().copied().map(AtnConfig::of)
+    }
+
+    /// The set's words, as document 01 lays them out.
+    pub fn words(&self) -> &[u32] {
+        &self.words
+    }
+}
+
+impl Default for AtnConfigSet {
+    fn default() -> Self {
+        Self::new()
+    }
+}
+
+impl fmt::Debug for AtnConfigSet {
+    fn fmt(&self, out: &mut fmt::Formatter<'_>) -> fmt::Result {
+        let (configs, flags) = (self.words[0], self.words[1]);
+        write!(out, "AtnConfigSet {{ configs: {configs}, flags: {flags} }}")
+    }
+}

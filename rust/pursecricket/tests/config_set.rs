@@ -1,0 +1,219 @@
+//! The safe face of config sets, by document 01's sentences.
+
+use pursecricket::{
+    Alternative, AtnConfig, AtnConfigSet, ContextArena, ContextId, EMPTY_CONTEXT, Refusal, ReturnState,
+    SemanticContextId, raw,
+};
+
+const MARK: u32 = 1 << 31;
+
+/// Contexts 1 to `count`: that many states over context 0.
+fn arena_of(count: u32) -> ContextArena {
+    let mut arena = ContextArena::new();
+    for state in 1..=count {
+        assert_eq!(arena.singleton(EMPTY_CONTEXT, ReturnState(state.into())), Ok(ContextId(state)));
+    }
+    arena
+}
+
+fn config(state: u32, alt: u32, context: u32) -> AtnConfig {
+    AtnConfig::new(state, Alternative(alt), ContextId(context))
+}
+
+fn only(set: &AtnConfigSet) -> AtnConfig {
+    assert_eq!(set.len(), 1);
+    set.configs().next().expect("one config")
+}
+
+#[test]
+fn fresh_sets() {
+    let fresh = [(AtnConfigSet::new(), 0), (AtnConfigSet::default(), 0)];
+    let chosen = [false, true].map(|full| (AtnConfigSet::new_full_context(full), u32::from(full)));
+    for (set, flags) in fresh.into_iter().chain(chosen) {
+        assert_eq!(set.words().len(), raw::SET_WORDS);
+        assert_eq!(set.words()[..2], [0, flags]);
+        assert!(set.words()[2..].iter().all(|&word| word == 0));
+        assert_eq!((set.len(), set.is_empty(), set.has_semantic_context()), (0, true, false));
+        assert_eq!(set.full_context(), flags == 1);
+        assert_eq!(set.configs().len(), 0);
+        assert_eq!(format!("{set:?}"), format!("AtnConfigSet {{ configs: 0, flags: {flags} }}"));
+    }
+}
+
+/// State, alternative, semantic id and lower 31 provenance bits are the key; each new one goes last.
+#[test]
+fn new_keys() {
+    let mut arena = arena_of(1);
+    let base = config(7, 1, 1);
+    let given = [
+        base,
+        AtnConfig { state: 8, ..base },
+        AtnConfig { alt: Alternative(2), ..base },
+        AtnConfig { semantic_context: SemanticContextId(4), ..base },
+        AtnConfig { semantic_provenance_and_flags: MARK | 5, ..base },
+        AtnConfig { semantic_provenance_and_flags: MARK - 1, ..base },
+    ];
+    let mut set = AtnConfigSet::new();
+    for (place, &config) in given.iter().enumerate() {
+        assert_eq!(set.add(config, &mut arena), Ok(true), "{place}");
+        assert_eq!(set.has_semantic_context(), place >= 3);
+        assert!(set.configs().eq(given[..=place].iter().copied()));
+    }
+    assert_eq!(set.configs().next_back(), Some(given[5]));
+    assert!(given[4].precedence_filter_suppressed() && !given[5].precedence_filter_suppressed());
+    assert_eq!(given[4].semantic_provenance_id(), 5);
+    assert_eq!(given[5].semantic_provenance_id(), MARK - 1);
+    assert!(given[3].has_semantic_context() && !base.has_semantic_context());
+}
+
+/// On a known key the contexts are merged, by wildcard unless the set is full-context.
+#[test]
+fn known_keys() {
+    for full in [false, true] {
+        let mut arena = arena_of(2);
+        let mut set = AtnConfigSet::new_full_context(full);
+        assert_eq!(set.add(config(7, 1, 1), &mut arena), Ok(true));
+        let mut second = config(7, 1, 2);
+        second.reaches_into_outer_context = 9;
+        second.suppress_precedence_filter();
+        assert_eq!(set.add(second, &mut arena), Ok(false));
+        let both = arena.merge(ContextId(1), ContextId(2), !full).expect("room");
+        assert_eq!(only(&set), AtnConfig { context: both, ..second });
+        // Neither a smaller reach nor a config without the mark takes anything back.
+        let mut third = config(7, 1, 0);
+        third.reaches_into_outer_context = 3;
+        assert_eq!(set.add(third, &mut arena), Ok(false));
+        let all = arena.merge(both, EMPTY_CONTEXT, !full).expect("room");
+        assert_eq!(only(&set), AtnConfig { context: all, ..second });
+        assert_eq!(all == EMPTY_CONTEXT, !full);
+    }
+}
+
+#[test]
+fn closed_sets() {
+    let mut arena = arena_of(1);
+    let mut set = AtnConfigSet::new();
+    assert_eq!(set.add(config(7, 1, 1), &mut arena), Ok(true));
+    for _ in 0..2 {
+        assert_eq!(set.close(&arena), Ok(()));
+        assert_eq!(set.words()[..2], [1, 8]);
+    }
+    let before = set.clone();
+    for refused in [config(8, 1, 1), config(7, 1, 0), config(7, 1, 9)] {
+        assert_eq!(set.add(refused, &mut arena), Err(Refusal::ReadOnlySet));
+        assert_eq!(set, before);
+    }
+    assert_eq!(only(&set), config(7, 1, 1));
+}
+
+/// A set of 256 takes no new key, and still a known one.
+#[test]
+fn full_sets() {
+    let mut arena = arena_of(1);
+    let mut set = AtnConfigSet::new_full_context(true);
+    for state in 0..256 {
+        assert_eq!(set.add(config(state, 1, 0), &mut arena), Ok(true));
+    }
+    assert_eq!(set.len(), 256);
+    let before = set.clone();
+    assert_eq!(set.add(config(256, 1, 0), &mut arena), Err(Refusal::FullSet));
+    assert_eq!(set.add(config(256, 1, 9), &mut arena), Err(Refusal::UnknownContext));
+    assert_eq!(set, before);
+    assert_eq!(set.add(config(255, 1, 1), &mut arena), Ok(false));
+    assert_eq!(set.configs().next_back(), Some(config(255, 1, 2)));
+    assert_eq!(arena.len(ContextId(2)), Ok(2));
+}
+
+/// A merge that lacks room leaves set and store.
+#[test]
+fn a_full_store() {
+    let mut arena = arena_of(511);
+    let mut set = AtnConfigSet::new_full_context(true);
+    assert_eq!(set.add(config(7, 1, 1), &mut arena), Ok(true));
+    let (before, store) = (set.clone(), arena.words().to_vec());
+    let mut second = config(7, 1, 2);
+    second.reaches_into_outer_context = 9;
+    second.suppress_precedence_filter();
+    assert_eq!(set.add(second, &mut arena), Err(Refusal::FullStore));
+    assert_eq!((&set, arena.words()), (&before, &store[..]));
+    assert_eq!(set.add(AtnConfig { context: ContextId(1), ..second }, &mut arena), Ok(false));
+    assert_eq!(only(&set), AtnConfig { context: ContextId(1), ..second });
+}
+
+/// Contexts are judged by the arena that is lent.
+#[test]
+fn another_arena() {
+    let (mut large, mut small) = (arena_of(3), arena_of(2));
+    let mut set = AtnConfigSet::new();
+    assert_eq!(set.add(config(7, 1, 4), &mut large), Err(Refusal::UnknownContext));
+    assert_eq!(set.add(config(7, 1, 3), &mut large), Ok(true));
+    assert_eq!(set.add(config(8, 1, 1), &mut small), Err(Refusal::UnsoundSet));
+    assert_eq!(set.close(&small), Err(Refusal::UnsoundSet));
+    assert_eq!(set.add(config(8, 1, 1), &mut large), Ok(true));
+    assert_eq!(set.len(), 2);
+}
+
+/// What the methods say: unique and viable alternative, all conflict, all equal, and the verdict.
+type Said = (Option<Alternative>, Option<Alternative>, bool, bool, bool);
+
+fn said(set: &AtnConfigSet, arena: &ContextArena, stops: &[u32]) -> Result<Said, Refusal> {
+    Ok((
+        set.unique_alt(arena)?,
+        set.single_viable_alt(arena)?,
+        set.all_subsets_conflict(arena)?,
+        set.all_subsets_equal(arena)?,
+        set.has_sll_conflict_terminating_prediction(arena, stops)?,
+    ))
+}
+
+/// P10, P11 and P12, then stop states; neither set nor arena changes.
+#[test]
+fn verdicts() {
+    let mut arena = arena_of(2);
+    let mut set = AtnConfigSet::new();
+    let one = Some(Alternative(1));
+    assert_eq!(said(&set, &arena, &[]), Ok((None, None, true, true, true)));
+    for alt in [2, 1] {
+        assert_eq!(set.add(config(7, alt, 1), &mut arena), Ok(true));
+    }
+    assert_eq!(said(&set, &arena, &[]), Ok((None, one, true, true, true)));
+    assert_eq!(set.add(config(8, 2, 1), &mut arena), Ok(true));
+    let before = (set.clone(), arena.words().to_vec());
+    assert_eq!(said(&set, &arena, &[8, 9]), Ok((None, None, false, false, false)));
+    assert_eq!(said(&set, &arena, &[8, 7, 8]), Ok((None, None, false, false, true)));
+    assert_eq!((&set, arena.words()), (&before.0, &before.1[..]));
+    // A closed set answers as an open one.
+    assert_eq!(set.close(&arena), Ok(()));
+    assert_eq!(said(&set, &arena, &[7]), Ok((None, None, false, false, false)));
+}
+
+/// Alternative 0 is one, and 4294967295 another.
+#[test]
+fn border_alternatives() {
+    let mut arena = arena_of(1);
+    for alt in [0, u32::MAX] {
+        let mut set = AtnConfigSet::new();
+        for state in [0, u32::MAX] {
+            assert_eq!(set.add(config(state, alt, 1), &mut arena), Ok(true));
+        }
+        let only = Some(Alternative(alt));
+        assert_eq!(said(&set, &arena, &[0]), Ok((only, only, false, true, false)));
+        assert_eq!(said(&set, &arena, &[u32::MAX, 0]), Ok((only, only, false, true, true)));
+    }
+}
+
+/// 64 stop states are taken and 65 are not; an arena that lacks a context comes first.
+#[test]
+fn refused_verdicts() {
+    let (mut large, small) = (arena_of(3), arena_of(2));
+    let mut set = AtnConfigSet::new();
+    assert_eq!(set.add(config(7, 1, 3), &mut large), Ok(true));
+    let verdict = |arena, stops: &[u32]| set.has_sll_conflict_terminating_prediction(arena, stops);
+    assert_eq!(verdict(&large, &[7; raw::MOST_STOPS]), Ok(true));
+    assert_eq!(verdict(&large, &[7; raw::MOST_STOPS + 1]), Err(Refusal::TooManyStops));
+    assert_eq!(verdict(&small, &[7; raw::MOST_STOPS + 1]), Err(Refusal::UnsoundSet));
+    let unsound = Err(Refusal::UnsoundSet);
+    assert_eq!((set.unique_alt(&small), set.single_viable_alt(&small)), (unsound, unsound));
+    let unsound = Err(Refusal::UnsoundSet);
+    assert_eq!((set.all_subsets_conflict(&small), set.all_subsets_equal(&small)), (unsound, unsound));
+}
