@@ -1,4 +1,4 @@
--- Laws of the merges, once over the kind: what stands beneath a state, canonical form, commutative, idempotent, associative.
+-- Laws of the merges, once over the mode: what stands beneath a state, canonical form, commutative, idempotent, associative.
 -- Nothing here has to be believed.
 use mathlib.Core.Path.{_≡_, refl, sym, ap, _∙_}
 use mathlib.Core.Bool.{Bool, true, false, _&&_, _||_, or-false, or-self, or-comm, or-assoc, false≢true}

@@ -1,4 +1,4 @@
--- To believe: the two merges of sets of stacks, as one definition over the kind: `false` is full-context, `true` is by wildcard.
+-- To believe: the two merges of sets of stacks, as one definition over the mode: `false` is full-context, `true` is by wildcard.
 pub mod Laws
 use mathlib.Core.Bool.{Bool, true, false, _&&_, _||_}
 use lib.Dec.{ltb}

@@ -43,7 +43,7 @@ pub data WildcardMerge : Stacks → Stacks → Stacks → Type 0 where
       → ((x : ℕ) → Top A x → Top B x → WildcardMerge (beneath A x) (beneath B x) (beneath C x))
       → WildcardMerge A B C
 
--- the rule of the kind: `false` full-context, `true` by wildcard
+-- the rule of the mode: `false` full-context, `true` by wildcard
 abbrev pub MergeRule : Bool → Stacks → Stacks → Stacks → Type 0
 MergeRule false A B C = FullMerge A B C
 MergeRule true A B C = WildcardMerge A B C

@@ -121,7 +121,7 @@ place-numbers s F w v h =
     ap (λ (k : List Forest). joined k F) (placeE-numbered 0 s F w v) ∙
     sym (all-append (sets s) (inner F) (F ∷ []))
 
--- The numbering rule, of a merge of either kind.
+-- The numbering rule, of a merge of either mode.
 pub merge-numbers : (m : Bool) (s : Store) → Sound s → (a b : ℕ) → a < length s → b < length s
     → sets (mergeS m s a b .1) ≡ allJoined (sets s) (parts (mergeT m (tree s a) (tree s b)))
 unfolding mergeS

@@ -49,7 +49,7 @@ wildcard-determined {A = A} {B = B} {C = C} (merged n e l r b) D w (x ∷ σ) =
     (λ k. d (l x k σ ∙ sym (o .left x k σ)))
     (λ i j. d (wildcard-determined (b x i j) (beneath D x) (o .both x i j) σ))
 
--- Two results of one merge, of either kind, have the same stacks.
+-- Two results of one merge, of either mode, have the same stacks.
 pub rule-determined : (m : Bool) (A B C D : Stacks) → MergeRule m A B C → MergeRule m A B D → (σ : List ℕ) → C σ ≡ D σ
 rule-determined false A B C D f g σ = f σ ∙ sym (g σ)
 rule-determined true A B C D f g σ = wildcard-determined f D g σ
@@ -124,7 +124,7 @@ wildcard-merge =
     (λ B v w. wildcard-step none B v w (λ x i. absurd (false≢true (i .1))))
     (λ A ih B v w. wildcard-step A B v w (λ x i. ih x (under B x) (under-canon 0 A x v) (under-canon 0 B x w)))
 
--- A merge, of either kind, follows the rule of its kind.
+-- A merge, of either mode, follows the rule of its kind.
 pub merge-rule : (m : Bool) (A B : Forest) → Canon A → Canon B → MergeRule m (mem A) (mem B) (mem (mergeT m A B))
 merge-rule false A B v w = full-merge A B v w
 merge-rule true A B v w = wildcard-merge A B v w
