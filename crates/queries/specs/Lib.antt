@@ -5,3 +5,4 @@ pub mod Sentences
 pub mod Listed
 pub mod EntryWords
 pub mod Determined
+pub mod Refused

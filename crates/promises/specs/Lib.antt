@@ -1,0 +1,6 @@
+-- What is promised, sentence by sentence: FirstDemand, SecondDemand, ThirdDemand, a file for each demand. A statement names definitions of
+-- believed files alone; what stands after its `=` cites the theorem of the layer that proves it. Words is for those citations.
+pub mod Words
+pub mod FirstDemand
+pub mod SecondDemand
+pub mod ThirdDemand

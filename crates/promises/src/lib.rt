@@ -1,0 +1,1 @@
+// What is promised, in one place: theorems alone.
