@@ -2,7 +2,7 @@
 use mathlib.Core.Bool.{true, false}
 use Prim.Native.Nat.{ℕ}
 use Rattle.groups.specs.Answers.{none, only}
-use Rattle.verdicts.specs.Calls.{VerdictReply, refused, says, alternative, written}
+use Rattle.verdicts.specs.Calls.{VerdictReply, refused, says, alternative, written, summary}
 use Rattle.answers.specs.declared.structs.Answer.{Answer}
 use Rattle.answers.specs.declared.structs.EntryAnswer.{EntryAnswer}
 
@@ -11,6 +11,7 @@ verdictNumberOf (refused n) = n
 verdictNumberOf (says b) = 0
 verdictNumberOf (alternative a) = 0
 verdictNumberOf written = 0
+verdictNumberOf (summary x) = 0
 
 unfoldable pub verdictValueOf : VerdictReply → ℕ
 verdictValueOf (refused n) = 0
@@ -19,6 +20,7 @@ verdictValueOf (says false) = 0
 verdictValueOf (alternative none) = 0
 verdictValueOf (alternative (only a)) = a
 verdictValueOf written = 0
+verdictValueOf (summary x) = 0
 
 unfoldable pub verdictFoundOf : VerdictReply → ℕ
 verdictFoundOf (refused n) = 0
@@ -26,6 +28,7 @@ verdictFoundOf (says b) = 0
 verdictFoundOf (alternative none) = 0
 verdictFoundOf (alternative (only a)) = 1
 verdictFoundOf written = 0
+verdictFoundOf (summary x) = 0
 
 abbrev pub verdictAnswerOf : VerdictReply → Answer
 verdictAnswerOf r = record { refusal = verdictNumberOf r; value = verdictValueOf r }

@@ -12,12 +12,20 @@ use Rattle.sets.specs.Calls.{lentLengths, lentChecks}
 use Rattle.groups.specs.Answers.{Answer, allSubsetsConflict, allSubsetsEqual, singleViableAlt, uniqueAlt, verdict}
 use Rattle.outputs.specs.Outputs.{subsetsLength, altsLength, subsetsWords, altsWords}
 
--- a refusal with its number; yes or no; an alternative, or none; words written
+-- the number of subsets, the unique and the viable alternative, the verdict
+pub record Summary : Type 0 where
+  pub subsets : ℕ
+  pub unique : Answer
+  pub viable : Answer
+  pub verdict : Bool
+
+-- a refusal with its number; yes or no; an alternative, or none; words written; a summary
 pub data VerdictReply : Type 0 where
   refused : ℕ → VerdictReply
   says : Bool → VerdictReply
   alternative : Answer → VerdictReply
   written : VerdictReply
+  summary : Summary → VerdictReply
 
 -- the reply, and every word afterwards of what a call may write
 pub record VerdictLeft : Type 0 where

@@ -1,41 +1,24 @@
 // One alternative, or none: of every config, or the smallest of every subset.
 use crate::answers::AltFound;
-use deciding::inner::least::least_alt;
-use grouping::inner::marks::Picks;
-use grouping::inner::marks::each_picked;
-use grouping::inner::traits::Alike;
-use grouping::inner::traits::alternative_of;
+use deciding::inner::single::OneAlt;
+use deciding::inner::single::common_alt;
+use deciding::inner::single::viable_alt;
 use setcheck::inner::open::open_set;
-use setcheck::inner::read::config_count;
 use store::inner::admit::Admitted;
-use words::Alternative;
 ghost use mathlib.Core.Path.{_≡_};
 ghost use mathlib.Core.List.{[]};
-ghost use Rattle.groups.specs.Answers.{singleViableAlt, uniqueAlt};
-ghost use Rattle.grouping.specs.Clash.{configsOf};
-ghost use Rattle.grouping.specs.Led.{Lent};
-ghost use Rattle.deciding.specs.Alone.{Counted};
+ghost use Rattle.deciding.specs.OneAlt.{oneAlt};
 ghost use Rattle.verdicts.specs.Calls.{alternative, singleViableAltCall, uniqueAltCall, verdictLeft};
 ghost use Rattle.verdicts.specs.Replies.{altFound};
 
-// The alternative of every config.
-fn common_alt(set: &[u32]) -> AltFound
-    requires { ⌜ Counted (now set) ⌝ }
-    ensures { λ r. ⌜ altFound r ≡ alternative (uniqueAlt (configsOf (now (set .entry)))) ⌝ }
+// The answer of a call that is not refused.
+fn found(one: OneAlt) -> AltFound
+    ensures { λ r. ⌜ altFound r ≡ alternative (oneAlt one) ⌝ }
 {
-    let count = config_count(set) as usize;
-    if count == 0 {
-        return AltFound::Nothing;
+    match one {
+        OneAlt::Only(only) => AltFound::Only(only),
+        OneAlt::Nothing => AltFound::Nothing,
     }
-    let first = alternative_of(set, 0);
-    let mut place = 1;
-    while place < count {
-        if alternative_of(set, place) != first {
-            return AltFound::Nothing;
-        }
-        place += 1;
-    }
-    AltFound::Only(Alternative(first))
 }
 
 // Which alternative have all configs?
@@ -48,23 +31,7 @@ pub fn unique_alt(store: &[u32], set: &[u32], scratch: &mut [u32]) -> AltFound
         return AltFound::Refused(refusal);
     }
     words::clear(scratch);
-    common_alt(set)
-}
-
-// The smallest alternative of the set, where every subset has it.
-fn viable_alt(set: &[u32], scratch: &mut [u32]) -> AltFound
-    requires { ⌜ Lent (now set) (now scratch) ⌝ }
-    ensures { λ r. ⌜ (altFound r ≡ alternative (singleViableAlt (configsOf (now (set .entry)))))
-        × Lent (now (set .entry)) (now (scratch .exit)) ⌝ }
-{
-    if config_count(set) == 0 {
-        return AltFound::Nothing;
-    }
-    let least = Alternative(least_alt(set));
-    if each_picked(set, scratch, Alike::Place, Picks::Holders(least)) {
-        return AltFound::Only(least);
-    }
-    AltFound::Nothing
+    found(common_alt(set))
 }
 
 // Which alternative is the smallest of every subset?
@@ -76,7 +43,7 @@ pub fn single_viable_alt(store: &[u32], set: &[u32], scratch: &mut [u32]) -> Alt
     if let Admitted::Refused(refusal) = opened {
         return AltFound::Refused(refusal);
     }
-    let found = viable_alt(set, scratch);
+    let one = viable_alt(set, scratch);
     words::clear(scratch);
-    found
+    found(one)
 }

@@ -1,6 +1,7 @@
 // The verdict: does the set settle which alternative is taken?
 use crate::answers::Decided;
 use crate::subsets::answer;
+use deciding::inner::verdict::MOST_STOPS;
 use deciding::inner::verdict::decide;
 use setcheck::inner::open::open_set;
 use store::inner::admit::Admitted;
@@ -9,8 +10,6 @@ ghost use mathlib.Core.Path.{_≡_};
 ghost use mathlib.Core.List.{[]};
 ghost use Rattle.verdicts.specs.Calls.{verdictCall, verdictLeft};
 ghost use Rattle.verdicts.specs.Replies.{decided};
-
-const MOST_STOPS: usize = 64;
 
 // What is the verdict on the set, with these stop states?
 pub fn has_sll_conflict_terminating_prediction(

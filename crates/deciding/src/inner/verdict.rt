@@ -16,6 +16,9 @@ ghost use Rattle.grouping.specs.Clash.{configsOf};
 ghost use Rattle.grouping.specs.Led.{Lent};
 ghost use Rattle.deciding.specs.Alone.{Counted};
 
+// A list of stop states has at most as many.
+pub const MOST_STOPS: usize = 64;
+
 // Is a state in the list?
 fn is_listed(stops: &[u32], state: u32) -> bool
     ensures { λ r. ⌜ r ≡ any (eqb state) (now (stops .entry)) ⌝ }

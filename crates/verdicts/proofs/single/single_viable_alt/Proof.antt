@@ -3,7 +3,7 @@ use borrow.Author.Needs.{needs}
 use mathlib.Core.Path.{_≡_, refl, ap, _∙_}
 use mathlib.Core.List.{[]}
 use Rattle.store.specs.declared.inner.admit.Admitted.the-variants.{Ready as ready, Refused}
-use Rattle.verdicts.specs.Calls.{VerdictReply, verdictLeft, singleViableAltCall}
+use Rattle.verdicts.specs.Calls.{VerdictReply, alternative, verdictLeft, singleViableAltCall}
 use Rattle.verdicts.specs.Opened.{ready-lent, left-refused, left-answered}
 use Rattle.verdicts.proofs.single.single_viable_alt.Statement.{statement}
 use Rattle.verdicts.proofs.single.single_viable_alt.Tie as tie
@@ -29,11 +29,11 @@ viable-alt-requires c κs =
 returns-2 : tie.Need-returns-2
 unfolding singleViableAltCall
 returns-2 c =
-    let args-at = c .before .before .before .before .before .before .before .before .before .before .before .before .before .before .before .before .before .args in
-    let clear-at = c .before .before .clear in
-    let enum-told-at = c .before .before .before .before .before .before .before .before .enum-told in
-    let open-set-at = c .before .before .before .before .before .before .before .before .before .before .before .before .open-set in
-    let viable-alt-at = c .before .before .before .before .before .before .viable-alt in
+    let args-at = c .before .before .before .before .before .before .before .before .before .before .before .before .before .before .before .before .before .before .args in
+    let clear-at = c .before .before .before .clear in
+    let enum-told-at = c .before .before .before .before .before .before .before .before .before .enum-told in
+    let open-set-at = c .before .before .before .before .before .before .before .before .before .before .before .before .before .open-set in
+    let viable-alt-at = c .before .before .before .before .before .before .before .viable-alt in
     let args = args-at in
     let clear = clear-at in
     let enum-told = enum-told-at in
@@ -41,12 +41,11 @@ returns-2 c =
     let viable-alt = viable-alt-at in
     let e : open-set .result ≡ ready = enum-told .given .1 in
     let s = rw e at (open-set .ensures) in
-    let found = viable-alt in
-    ap (λ (r : VerdictReply). verdictLeft r (clear .last .0) []) (found .ensures .0)
-    ∙ left-answered (args .store .now) (args .set .now) (args .scratch .now) 0 [] _ [] refl (found .last .1 .0) (clear .last .0) (found .ensures .1 .lent) (clear .ensures) (open-set .last .1 .1 .0) s
+    ap (λ (r : VerdictReply). verdictLeft r (clear .last .0) []) (c .found .ensures ∙ ap alternative (viable-alt .ensures .0))
+    ∙ left-answered (args .store .now) (args .set .now) (args .scratch .now) 0 [] _ [] refl (viable-alt .last .1 .0) (clear .last .0) (viable-alt .ensures .1 .lent) (clear .ensures) (open-set .last .1 .1 .0) s
 
 pub single-viable-alt-spec : {M : Type 1} → statement M
 single-viable-alt-spec =
     tie.close
     (tie.spec
-    (λ c κs. search needs) (λ c. search needs) (λ c. search needs) returns (λ c. search needs) viable-alt-requires (λ c κs. search needs) (λ c. search needs) returns-2)
+    (λ c κs. search needs) (λ c. search needs) (λ c. search needs) returns (λ c. search needs) viable-alt-requires (λ c κs. search needs) (λ c κs. search needs) (λ c. search needs) returns-2)

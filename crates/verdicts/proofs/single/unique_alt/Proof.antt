@@ -4,7 +4,7 @@ use mathlib.Core.Path.{_≡_, refl, ap, _∙_}
 use mathlib.Core.List.{List, []}
 use Prim.Native.Nat.{ℕ}
 use Rattle.store.specs.declared.inner.admit.Admitted.the-variants.{Ready as ready, Refused}
-use Rattle.verdicts.specs.Calls.{VerdictReply, verdictLeft, uniqueAltCall}
+use Rattle.verdicts.specs.Calls.{VerdictReply, alternative, verdictLeft, uniqueAltCall}
 use Rattle.verdicts.specs.Opened.{ready-counted, ready-lent, left-refused, left-answered}
 use Rattle.verdicts.proofs.single.unique_alt.Statement.{statement}
 use Rattle.verdicts.proofs.single.unique_alt.Tie as tie
@@ -32,17 +32,17 @@ common-alt-requires c κs =
 returns-2 : tie.Need-returns-2
 unfolding uniqueAltCall
 returns-2 c =
-    let args-at = c .before .before .before .before .before .before .before .before .before .before .before .before .before .before .args in
-    let clear-at = c .before .before .before .clear in
-    let enum-told-at = c .before .before .before .before .before .enum-told in
-    let open-set-at = c .before .before .before .before .before .before .before .before .before .open-set in
+    let args-at = c .before .before .before .before .before .before .before .before .before .before .before .before .before .before .before .args in
+    let clear-at = c .before .before .before .before .clear in
+    let enum-told-at = c .before .before .before .before .before .before .enum-told in
+    let open-set-at = c .before .before .before .before .before .before .before .before .before .before .open-set in
     let args = args-at in
     let clear = clear-at in
     let enum-told = enum-told-at in
     let open-set = open-set-at in
     let e : open-set .result ≡ ready = enum-told .given .1 in
     let s = rw e at (open-set .ensures) in
-    ap (λ (r : VerdictReply). verdictLeft r (clear .last .0) []) (c .common-alt .ensures)
+    ap (λ (r : VerdictReply). verdictLeft r (clear .last .0) []) (c .found .ensures ∙ ap alternative (c .before .common-alt .ensures))
     ∙ left-answered (args .store .now) (args .set .now) (args .scratch .now) 0 [] _ [] refl (open-set .last .1 .1 .0)
     (clear .last .0) (ready-lent (s .0) .lent) (clear .ensures) (open-set .last .1 .1 .0) s
 
@@ -50,4 +50,4 @@ pub unique-alt-spec : {M : Type 1} → statement M
 unique-alt-spec =
     tie.close
     (tie.spec
-    (λ c κs. search needs) (λ c. search needs) (λ c. search needs) returns (λ c. search needs) (λ c κs. search needs) common-alt-requires (λ c. search needs) returns-2)
+    (λ c κs. search needs) (λ c. search needs) (λ c. search needs) returns (λ c. search needs) (λ c κs. search needs) common-alt-requires (λ c κs. search needs) (λ c. search needs) returns-2)

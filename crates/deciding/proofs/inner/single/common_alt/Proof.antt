@@ -4,11 +4,10 @@ use mathlib.Core.Path.{sym, ap, _∙_}
 use Prim.Native.Nat.{_<_, _≤_, _-_}
 use native.Mathlib.Omega.{arith}
 use Rattle.sets.specs.Layout.{configCount}
 use Rattle.deciding.specs.Alone.{Same, unique-none, unique-two, unique-one, same-begin, same-more}
-use Rattle.verdicts.specs.Calls.{alternative}
 use Rattle.groups.specs.Answers.{only}
-use Rattle.verdicts.proofs.single.common_alt.Statement.{statement}
-use Rattle.verdicts.proofs.single.common_alt.Tie as tie
+use Rattle.deciding.proofs.inner.single.common_alt.Statement.{statement}
+use Rattle.deciding.proofs.inner.single.common_alt.Tie as tie
 
 abbrev Inv-loop : tie.InvT-loop
 Inv-loop set count first place₀ place = (0 < place) × (place ≤ configCount set) × Same set place
@@ -23,7 +22,7 @@ returns : tie.Need-returns Inv-loop μ-loop
 returns c =
     let args-at = c .before .before .before .args in
     let args = args-at in
-    ap alternative (sym (unique-none (args .set .now) (sym (c .before .config-count .ensures) ∙ c .if1 .taken)))
+    sym (unique-none (args .set .now) (sym (c .before .config-count .ensures) ∙ c .if1 .taken))
 
 alternative-of-requires : tie.Need-alternative-of-requires Inv-loop μ-loop
 alternative-of-requires c κs =
@@ -59,8 +58,8 @@ returns-2 c =
     let config-count = config-count-at in
     let loop = loop-at in
     let loop-test = loop-test-at in
-    ap alternative (sym (unique-two (args .set .now) (loop .place) (omega (arith, loop-test .taken, config-count .ensures))
-    (λ e. c .if2 .taken (c .before .alternative-of2 .ensures ∙ e ∙ sym (alternative-of .ensures)))))
+    sym (unique-two (args .set .now) (loop .place) (omega (arith, loop-test .taken, config-count .ensures))
+    (λ e. c .if2 .taken (c .before .alternative-of2 .ensures ∙ e ∙ sym (alternative-of .ensures))))
 
 add-place : tie.Need-add-place Inv-loop μ-loop
 add-place c =
@@ -99,8 +98,8 @@ returns-3 c =
     let args = args-at in
     let config-count = config-count-at in
     let loop = c .before .loop in
-    ap alternative (ap only (alternative-of .ensures) ∙ sym (unique-one (args .set .now) (omega (arith, loop .inv .0, loop .inv .1))
-    (λ i l. loop .inv .2 i (omega (arith, l, c .loop-test .left, config-count .ensures)))))
+    ap only (alternative-of .ensures) ∙ sym (unique-one (args .set .now) (omega (arith, loop .inv .0, loop .inv .1))
+    (λ i l. loop .inv .2 i (omega (arith, l, c .loop-test .left, config-count .ensures))))
 
 pub common-alt-spec : {M : Type 1} → statement M
 common-alt-spec =
