@@ -2,3 +2,4 @@
 pub mod Calls
 pub mod Replies
 pub mod Told
+pub mod Same
