@@ -7,7 +7,14 @@
 #include <stddef.h>
 #include <stdint.h>
 
-enum { PURSE_STORE_WORDS = 5634, PURSE_SCRATCH_WORDS = 16384, PURSE_SET_WORDS = 1538, PURSE_MOST_STOPS = 64 };
+enum {
+    PURSE_STORE_WORDS = 5634,
+    PURSE_SCRATCH_WORDS = 16384,
+    PURSE_SET_WORDS = 1538,
+    PURSE_SUBSET_WORDS = 1025,
+    PURSE_CONFLICT_WORDS = 257,
+    PURSE_MOST_STOPS = 64
+};
 
 /* Why a call was refused; 0 where it was not. */
 enum purse_refusal {
@@ -41,6 +48,18 @@ typedef struct {
     uint32_t found;
     uint64_t value;
 } purse_entry_answer;
+
+/* A refusal's number; where that is 0, how many subsets, 1 and the unique alternative or 0 where there is none, the same of the viable one, and
+   1 where the verdict is yes. */
+typedef struct {
+    uint32_t refusal;
+    uint32_t subsets;
+    uint32_t has_unique;
+    uint32_t unique;
+    uint32_t has_viable;
+    uint32_t viable;
+    uint32_t verdict;
+} purse_figures_answer;
 
 /* Makes the words a store of context 0 alone; answers a refusal's number. */
 uint32_t purse_fresh(uint32_t *store, size_t store_len);
@@ -91,5 +110,18 @@ purse_answer purse_all_subsets_equal(const uint32_t *store, size_t store_len, co
 /* The verdict, with these stop states, 64 at most: 1 where the set settles the prediction. */
 purse_answer purse_has_sll_conflict_terminating_prediction(const uint32_t *store, size_t store_len, const uint32_t *set, size_t set_len,
                                                            uint32_t *scratch, size_t scratch_len, const uint32_t *stops, size_t stops_len);
+
+/* Writes the subsets over all 1,025 words: how many, then of each state, context, how many alternatives and these, rising; the rest 0. Answers a
+   refusal's number, and leaves the words where that is not 0. */
+uint32_t purse_conflicting_alt_subsets(const uint32_t *store, size_t store_len, const uint32_t *set, size_t set_len, uint32_t *scratch,
+                                       size_t scratch_len, uint32_t *output, size_t output_len);
+
+/* Writes the alternatives of the subsets with two or more over all 257 words: how many, then these, rising; the rest 0. Answers as above. */
+uint32_t purse_conflicting_alts(const uint32_t *store, size_t store_len, const uint32_t *set, size_t set_len, uint32_t *scratch, size_t scratch_len,
+                                uint32_t *output, size_t output_len);
+
+/* How many subsets, unique and viable alternative and the verdict with these stop states, by one check of store and set. */
+purse_figures_answer purse_figures(const uint32_t *store, size_t store_len, const uint32_t *set, size_t set_len, uint32_t *scratch,
+                                   size_t scratch_len, const uint32_t *stops, size_t stops_len);
 
 #endif

@@ -4,6 +4,7 @@
 #include "pursecricket.h"
 
 static uint32_t store[PURSE_STORE_WORDS], set[PURSE_SET_WORDS], scratch[PURSE_SCRATCH_WORDS];
+static uint32_t subsets[PURSE_SUBSET_WORDS], alternatives[PURSE_CONFLICT_WORDS];
 
 static purse_answer add(uint32_t state, uint32_t alternative, uint32_t context) {
     return purse_add(store, PURSE_STORE_WORDS, set, PURSE_SET_WORDS, scratch, PURSE_SCRATCH_WORDS, state, alternative, context, 0, 0, 0);
@@ -27,11 +28,18 @@ int main(void) {
     printf("state 7 with alternatives 1 and 2 in one context, inserted: %u", add(7, 1, over.value).value);
     printf(" %u", add(7, 2, over.value).value);
     printf("; verdict: %u\n", verdict());
+    uint32_t refusal = purse_conflicting_alts(store, PURSE_STORE_WORDS, set, PURSE_SET_WORDS, scratch, PURSE_SCRATCH_WORDS, alternatives, PURSE_CONFLICT_WORDS);
+    printf("refusal %u; %u conflicting alternatives: %u %u\n", refusal, alternatives[0], alternatives[1], alternatives[2]);
     printf("alternative 2 again, in a wider context, merged: %u", add(7, 2, both.value).value);
     printf("; verdict: %u\n", verdict());
 
     purse_entry_answer unique = purse_unique_alt(store, PURSE_STORE_WORDS, set, PURSE_SET_WORDS, scratch, PURSE_SCRATCH_WORDS);
     printf("one alternative for all: %s\n", unique.found ? "yes" : "none");
+
+    purse_figures_answer all = purse_figures(store, PURSE_STORE_WORDS, set, PURSE_SET_WORDS, scratch, PURSE_SCRATCH_WORDS, 0, 0);
+    printf("by one check: %u subsets, unique %s, viable %s, verdict %u\n", all.subsets, all.has_unique ? "yes" : "none", all.has_viable ? "yes" : "none", all.verdict);
+    refusal = purse_conflicting_alt_subsets(store, PURSE_STORE_WORDS, set, PURSE_SET_WORDS, scratch, PURSE_SCRATCH_WORDS, subsets, PURSE_SUBSET_WORDS);
+    printf("refusal %u; %u subsets, the second of state %u and context %u with alternative %u\n", refusal, subsets[0], subsets[5], subsets[6], subsets[8]);
 
     uint32_t closed = purse_close(store, PURSE_STORE_WORDS, set, PURSE_SET_WORDS, scratch, PURSE_SCRATCH_WORDS);
     printf("closed: %u; then adding is refused with %u\n", closed, add(8, 1, 0).refusal);

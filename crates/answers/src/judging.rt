@@ -5,9 +5,20 @@ use crate::structs::refusal_answer;
 use crate::structs::refusal_entry;
 use verdicts::AltFound;
 use verdicts::Decided;
+use verdicts::Written;
 ghost use mathlib.Core.Path.{_≡_};
-ghost use Rattle.verdicts.specs.Replies.{altFound, decided};
-ghost use Rattle.answers.specs.VerdictAnswers.{altAnswerOf, verdictAnswerOf};
+ghost use Rattle.verdicts.specs.Replies.{altFound, decided, wrote};
+ghost use Rattle.answers.specs.VerdictAnswers.{altAnswerOf, verdictAnswerOf, verdictNumberOf};
+
+// The number for words written: 0 where they were.
+pub fn written_number(answer: Written) -> u32
+    ensures { λ r. ⌜ r ≡ verdictNumberOf (wrote answer) ⌝ }
+{
+    match answer {
+        Written::Done => 0,
+        Written::Refused(refusal) => words::refusal_number(refusal),
+    }
+}
 
 // The answer to a question on a set: 1 for yes, 0 for no.
 pub fn decided_answer(answer: Decided) -> Answer

@@ -61,6 +61,13 @@ pub enum Reply {
     },
     /// An alternative; `None` where there is none.
     Alternative(Option<u32>),
+    /// The number of subsets, the unique and the viable alternative, and the verdict.
+    Figures {
+        subsets: u32,
+        unique: Option<u32>,
+        viable: Option<u32>,
+        verdict: bool,
+    },
 }
 
 /// All that a call leaves.

@@ -24,4 +24,4 @@ pub use set_calls::{LentSet, SetCall, SetOutcome};
 pub use sound::is_sound;
 pub use sound_set::is_sound_set;
 pub use store::{Entry, Store};
-pub use verdict_calls::VerdictCall;
+pub use verdict_calls::{VerdictCall, VerdictOutcome};

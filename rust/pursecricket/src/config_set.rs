@@ -1,13 +1,16 @@
 //! A config set that owns the words it lends.
 
+use std::collections::BTreeSet;
 use std::fmt;
 
-use crate::raw::{self, SET_WORDS};
-use crate::{Alternative, AtnConfig, ContextArena, Refusal};
+use crate::raw::{self, CONFLICT_WORDS, SET_WORDS, SUBSET_WORDS};
+use crate::{Alternative, AtnConfig, ContextArena, Figures, Refusal};
 
 /// Words of a set before its configs: count and flags.
 const FIRST_CONFIG: usize = 2;
 const CONFIG_WORDS: usize = 6;
+/// Words of a subset before its alternatives: state, context and how many they are.
+const GROUP_WORDS: usize = 3;
 const FULL_CONTEXT: u32 = 1;
 const HAS_SEMANTIC: u32 = 2;
 
@@ -58,11 +61,17 @@ const HAS_SEMANTIC: u32 = 2;
 /// assert!(set.has_sll_conflict_terminating_prediction(&arena, &[])?);
 /// assert_eq!(set.single_viable_alt(&arena)?, Some(Alternative(1)));
 /// assert_eq!(set.unique_alt(&arena)?, None);
+/// assert_eq!(set.conflicting_alts(&arena)?, [1, 2].map(Alternative).into());
 ///
 /// // State 8 has one alternative only, so reading on may settle it; unless all is at a stop.
 /// set.add(AtnConfig::new(8, Alternative(2), EMPTY_CONTEXT), &mut arena)?;
 /// assert!(!set.has_sll_conflict_terminating_prediction(&arena, &[7])?);
 /// assert!(set.has_sll_conflict_terminating_prediction(&arena, &[8, 7, 7])?);
+/// assert_eq!(set.conflicting_alt_subsets(&arena)?, [[1, 2].map(Alternative).into(), [Alternative(2)].into()]);
+///
+/// // All at once, by one check.
+/// let figures = set.figures(&arena, &[7])?;
+/// assert_eq!((figures.subsets, figures.unique, figures.viable, figures.verdict), (2, None, None, false));
 ///
 /// // More than 64 stop states are refused.
 /// let verdict = set.has_sll_conflict_terminating_prediction(&arena, &[7; 65]);
@@ -130,6 +139,37 @@ impl AtnConfigSet {
     ) -> Result<bool, Refusal> {
         let scratch = &mut arena.scratch();
         raw::has_sll_conflict_terminating_prediction(arena.words(), &self.words, scratch, rule_stop_states)
+    }
+
+    /// The alternatives of each subset, in order of its first config.
+    pub fn conflicting_alt_subsets(
+        &self,
+        arena: &ContextArena,
+    ) -> Result<Vec<BTreeSet<Alternative>>, Refusal> {
+        let mut output = [0; SUBSET_WORDS];
+        raw::conflicting_alt_subsets(arena.words(), &self.words, &mut arena.scratch(), &mut output)?;
+        let (count, mut rest) = (output[0], &output[1..]);
+        let next = |_| {
+            let (group, after) = rest.split_at(GROUP_WORDS + rest[GROUP_WORDS - 1] as usize);
+            rest = after;
+            group[GROUP_WORDS..].iter().copied().map(Alternative).collect()
+        };
+        Ok((0..count).map(next).collect())
+    }
+
+    /// The alternatives of the subsets that have two or more.
+    pub fn conflicting_alts(&self, arena: &ContextArena) -> Result<BTreeSet<Alternative>, Refusal> {
+        let mut output = [0; CONFLICT_WORDS];
+        raw::conflicting_alts(arena.words(), &self.words, &mut arena.scratch(), &mut output)?;
+        let end = 1 + output[0] as usize;
+        Ok(output[1..end].iter().copied().map(Alternative).collect())
+    }
+
+    /// How many subsets there are, [`unique_alt`](Self::unique_alt),
+    /// [`single_viable_alt`](Self::single_viable_alt) and
+    /// [the verdict](Self::has_sll_conflict_terminating_prediction) at once, for the price of one check.
+    pub fn figures(&self, arena: &ContextArena, rule_stop_states: &[u32]) -> Result<Figures, Refusal> {
+        raw::figures(arena.words(), &self.words, &mut arena.scratch(), rule_stop_states)
     }
 
     /// How many configs there are.

@@ -17,6 +17,20 @@ pub struct EntryAnswer {
     pub value: u64,
 }
 
+/// A refusal number; where that is 0, the number of subsets, whether there is a unique alternative and which,
+/// the same of the viable one, and the verdict.
+#[derive(Clone, Copy, Debug, Eq, PartialEq)]
+#[repr(C)]
+pub struct FiguresAnswer {
+    pub refusal: u32,
+    pub subsets: u32,
+    pub has_unique: u32,
+    pub unique: u32,
+    pub has_viable: u32,
+    pub viable: u32,
+    pub verdict: u32,
+}
+
 /// A query on a context: the store is only read.
 pub type Query = unsafe extern "C" fn(*const u32, usize, *mut u32, usize, u32) -> Answer;
 
@@ -29,6 +43,10 @@ pub type SetQuery = unsafe extern "C" fn(*const u32, usize, *const u32, usize, *
 /// A question for an alternative of a set.
 pub type AltQuery =
     unsafe extern "C" fn(*const u32, usize, *const u32, usize, *mut u32, usize) -> EntryAnswer;
+
+/// A call that writes what a set's subsets are: a refusal number comes back.
+pub type Writer =
+    unsafe extern "C" fn(*const u32, usize, *const u32, usize, *mut u32, usize, *mut u32, usize) -> u32;
 
 #[allow(unsafe_code)]
 unsafe extern "C" {
@@ -167,4 +185,37 @@ unsafe extern "C" {
         stops: *const u32,
         stops_len: usize,
     ) -> Answer;
+
+    pub fn purse_conflicting_alt_subsets(
+        store: *const u32,
+        store_len: usize,
+        set: *const u32,
+        set_len: usize,
+        scratch: *mut u32,
+        scratch_len: usize,
+        output: *mut u32,
+        output_len: usize,
+    ) -> u32;
+
+    pub fn purse_conflicting_alts(
+        store: *const u32,
+        store_len: usize,
+        set: *const u32,
+        set_len: usize,
+        scratch: *mut u32,
+        scratch_len: usize,
+        output: *mut u32,
+        output_len: usize,
+    ) -> u32;
+
+    pub fn purse_figures(
+        store: *const u32,
+        store_len: usize,
+        set: *const u32,
+        set_len: usize,
+        scratch: *mut u32,
+        scratch_len: usize,
+        stops: *const u32,
+        stops_len: usize,
+    ) -> FiguresAnswer;
 }

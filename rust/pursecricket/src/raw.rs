@@ -7,12 +7,13 @@
 #![allow(unsafe_code)]
 
 use crate::doors::{
-    AltQuery, Answer, EntryAnswer, EntryQuery, Query, SetQuery, purse_add, purse_all_subsets_conflict,
-    purse_all_subsets_equal, purse_close, purse_fresh, purse_fresh_set, purse_has_empty_path,
+    AltQuery, Answer, EntryAnswer, EntryQuery, FiguresAnswer, Query, SetQuery, Writer, purse_add,
+    purse_all_subsets_conflict, purse_all_subsets_equal, purse_close, purse_conflicting_alt_subsets,
+    purse_conflicting_alts, purse_figures, purse_fresh, purse_fresh_set, purse_has_empty_path,
     purse_has_sll_conflict_terminating_prediction, purse_is_empty, purse_len, purse_merge, purse_parent,
     purse_return_state, purse_single_viable_alt, purse_singleton, purse_unique_alt,
 };
-use crate::{Alternative, AtnConfig, ContextId, Refusal, ReturnState};
+use crate::{Alternative, AtnConfig, ContextId, Figures, Refusal, ReturnState};
 
 /// Words of a store.
 pub const STORE_WORDS: usize = 5_634;
@@ -20,6 +21,10 @@ pub const STORE_WORDS: usize = 5_634;
 pub const SET_WORDS: usize = 1_538;
 /// Words of a scratch.
 pub const SCRATCH_WORDS: usize = 16_384;
+/// Words that subsets are written to.
+pub const SUBSET_WORDS: usize = 1_025;
+/// Words that conflicting alternatives are written to.
+pub const CONFLICT_WORDS: usize = 257;
 /// The most stop states of a verdict.
 pub const MOST_STOPS: usize = 64;
 
@@ -215,6 +220,55 @@ pub fn has_sll_conflict_terminating_prediction(
     value(answer).map(truth)
 }
 
+/// The subsets in order of their first config, written over all 1,025 words: how many, then of each its state,
+/// its context, how many alternatives and these, rising; the rest 0. Words of another length are refused with
+/// [`Refusal::WrongLength`], and a refusal leaves them.
+pub fn conflicting_alt_subsets(
+    store: &[u32],
+    set: &[u32],
+    scratch: &mut [u32],
+    output: &mut [u32],
+) -> Result<(), Refusal> {
+    write(purse_conflicting_alt_subsets, store, set, scratch, output)
+}
+
+/// The alternatives of the subsets that have two or more, written over all 257 words: how many, then these,
+/// rising; the rest 0. Refused as [`conflicting_alt_subsets`] is.
+pub fn conflicting_alts(
+    store: &[u32],
+    set: &[u32],
+    scratch: &mut [u32],
+    output: &mut [u32],
+) -> Result<(), Refusal> {
+    write(purse_conflicting_alts, store, set, scratch, output)
+}
+
+/// How many subsets, [`unique_alt`], [`single_viable_alt`] and the verdict with these stop states, by one
+/// check of store and set. Refused as the verdict is.
+pub fn figures(store: &[u32], set: &[u32], scratch: &mut [u32], stops: &[u32]) -> Result<Figures, Refusal> {
+    // SAFETY: each pointer and its length are those of one slice, which outlives the call; the scratch's is
+    // exclusive, and the others are only read.
+    let FiguresAnswer { refusal, subsets, has_unique, unique, has_viable, viable, verdict } = unsafe {
+        purse_figures(
+            store.as_ptr(),
+            store.len(),
+            set.as_ptr(),
+            set.len(),
+            scratch.as_mut_ptr(),
+            scratch.len(),
+            stops.as_ptr(),
+            stops.len(),
+        )
+    };
+    done(refusal)?;
+    Ok(Figures {
+        subsets,
+        unique: truth(has_unique).then_some(Alternative(unique)),
+        viable: truth(has_viable).then_some(Alternative(viable)),
+        verdict: truth(verdict),
+    })
+}
+
 fn ask(door: Query, store: &[u32], scratch: &mut [u32], context: ContextId) -> Result<u32, Refusal> {
     // SAFETY: each pointer and its length are those of one slice, which outlives the call; the store's is
     // only read, and the scratch's is exclusive. Every `Query` is a door of the archive.
@@ -256,6 +310,30 @@ fn ask_alt(
     };
     let found = entry(answer)?;
     Ok(found.map(|alt| Alternative(u32::try_from(alt).expect("an alternative is a word"))))
+}
+
+fn write(
+    door: Writer,
+    store: &[u32],
+    set: &[u32],
+    scratch: &mut [u32],
+    output: &mut [u32],
+) -> Result<(), Refusal> {
+    // SAFETY: each pointer and its length are those of one slice, which outlives the call; those of scratch
+    // and output are exclusive, and the others are only read. Every `Writer` is a door of the archive.
+    let refusal = unsafe {
+        door(
+            store.as_ptr(),
+            store.len(),
+            set.as_ptr(),
+            set.len(),
+            scratch.as_mut_ptr(),
+            scratch.len(),
+            output.as_mut_ptr(),
+            output.len(),
+        )
+    };
+    done(refusal)
 }
 
 fn done(refusal: u32) -> Result<(), Refusal> {
@@ -364,8 +442,32 @@ mod tests {
                 )
             };
             assert_eq!(answer, Answer { refusal, value: 0 });
+            // SAFETY: as above.
+            let answer = unsafe {
+                purse_figures(
+                    words,
+                    store.len(),
+                    configs,
+                    SET_WORDS,
+                    at,
+                    SCRATCH_WORDS,
+                    stops.as_ptr(),
+                    stops.len(),
+                )
+            };
+            assert_eq!(answer, FiguresAnswer { refusal, ..NO_FIGURES });
         }
     }
+
+    const NO_FIGURES: FiguresAnswer = FiguresAnswer {
+        refusal: 0,
+        subsets: 0,
+        has_unique: 0,
+        unique: 0,
+        has_viable: 0,
+        viable: 0,
+        verdict: 0,
+    };
 
     /// Alternative 0 is found; none carries nothing else.
     #[test]

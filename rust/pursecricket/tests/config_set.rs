@@ -1,8 +1,10 @@
 //! The safe face of config sets, by document 01's sentences.
 
+use std::collections::BTreeSet;
+
 use pursecricket::{
-    Alternative, AtnConfig, AtnConfigSet, ContextArena, ContextId, EMPTY_CONTEXT, Refusal, ReturnState,
-    SemanticContextId, raw,
+    Alternative, AtnConfig, AtnConfigSet, ContextArena, ContextId, EMPTY_CONTEXT, Figures, Refusal,
+    ReturnState, SemanticContextId, raw,
 };
 
 const MARK: u32 = 1 << 31;
@@ -185,6 +187,32 @@ fn verdicts() {
     // A closed set answers as an open one.
     assert_eq!(set.close(&arena), Ok(()));
     assert_eq!(said(&set, &arena, &[7]), Ok((None, None, false, false, false)));
+}
+
+/// Subsets in order of their first config, the conflicting alternatives, and all figures at once.
+#[test]
+fn subsets_and_figures() {
+    let mut arena = arena_of(2);
+    let mut set = AtnConfigSet::new();
+    let alts = |alts: &[u32]| alts.iter().copied().map(Alternative).collect::<BTreeSet<_>>();
+    assert_eq!(
+        (set.conflicting_alt_subsets(&arena), set.conflicting_alts(&arena)),
+        (Ok(vec![]), Ok(alts(&[])))
+    );
+    for (state, alt, context) in [(8, 5, 1), (7, 2, 2), (7, u32::MAX, 1), (7, 0, 2), (8, 3, 2)] {
+        assert_eq!(set.add(config(state, alt, context), &mut arena), Ok(true));
+    }
+    let subsets = vec![alts(&[5]), alts(&[0, 2]), alts(&[u32::MAX]), alts(&[3])];
+    assert_eq!(set.conflicting_alt_subsets(&arena), Ok(subsets));
+    assert_eq!(set.conflicting_alts(&arena), Ok(alts(&[0, 2])));
+    let figures = |verdict| Figures { subsets: 4, unique: None, viable: None, verdict };
+    assert_eq!(set.figures(&arena, &[]), Ok(figures(true)));
+    assert_eq!(set.figures(&arena, &[7, 8]), Ok(figures(true)));
+    assert_eq!(set.figures(&arena, &[7; raw::MOST_STOPS + 1]), Err(Refusal::TooManyStops));
+    let small = ContextArena::new();
+    assert_eq!(set.conflicting_alt_subsets(&small), Err(Refusal::UnsoundSet));
+    assert_eq!(set.conflicting_alts(&small), Err(Refusal::UnsoundSet));
+    assert_eq!(set.figures(&small, &[]), Err(Refusal::UnsoundSet));
 }
 
 /// Alternative 0 is one, and 4294967295 another.

@@ -3,9 +3,11 @@
 
 mod common;
 
-use common::verdicts::any_stops;
+use std::collections::BTreeSet;
+
+use common::verdicts::{any_stops, dirty_output};
 use judge::ConfigSet;
-use judge::layout::{SCRATCH_WORDS, narrow};
+use judge::layout::{CONFLICT_WORDS, SCRATCH_WORDS, SUBSET_WORDS, narrow};
 use judge::random::Random;
 use judge::set_makers::MARK;
 use oracle::prediction::driver::Machine;
@@ -70,8 +72,9 @@ fn any_machine(random: &mut Random, shape: &Shape) -> Machine {
 }
 
 /// All that a side says of a set with a stop list.
-#[derive(Clone, Copy, Debug, Eq, PartialEq)]
+#[derive(Clone, Debug, Eq, PartialEq)]
 struct Said {
+    subsets: usize,
     unique: Option<u32>,
     viable: Option<u32>,
     all_conflict: bool,
@@ -80,22 +83,56 @@ struct Said {
 }
 
 fn of_the_runtime(machine: &mut Machine) -> Said {
-    let Ok(Reply::Verdict(Verdict { unique, viable, terminates, .. })) = machine.call(&Record::Verdict)
+    let Ok(Reply::Verdict(Verdict { subsets, unique, viable, terminates })) = machine.call(&Record::Verdict)
     else {
         panic!("a verdict has no refusal");
     };
     let (all_conflict, all_equal) = (machine.all_subsets_conflict(), machine.all_subsets_equal());
-    Said { unique, viable, all_conflict, all_equal, terminates }
+    Said { subsets, unique, viable, all_conflict, all_equal, terminates }
 }
 
+/// Each by its own call; then all figures at once, which must be the same.
 fn of_the_port(store: &[u32], set: &[u32], scratch: &mut [u32], stops: &[u32]) -> Result<Said, Refusal> {
-    Ok(Said {
+    let figures = raw::figures(store, set, scratch, stops)?;
+    let said = Said {
+        subsets: figures.subsets as usize,
         unique: raw::unique_alt(store, set, scratch)?.map(|alternative| alternative.0),
         viable: raw::single_viable_alt(store, set, scratch)?.map(|alternative| alternative.0),
         all_conflict: raw::all_subsets_conflict(store, set, scratch)?,
         all_equal: raw::all_subsets_equal(store, set, scratch)?,
         terminates: raw::has_sll_conflict_terminating_prediction(store, set, scratch, stops)?,
-    })
+    };
+    let alone = [figures.unique, figures.viable].map(|found| found.map(|alternative| alternative.0));
+    assert_eq!((alone, figures.verdict), ([said.unique, said.viable], said.terminates));
+    Ok(said)
+}
+
+/// A subset: state, context and alternatives.
+type Group = (u32, u32, Vec<u32>);
+
+/// The subsets that stand in words, and whether the words after them are 0.
+fn groups_in(words: &[u32]) -> (BTreeSet<Group>, bool) {
+    let mut at = 1;
+    let next = |_| {
+        let (state, context, count) = (words[at], words[at + 1], wide(words[at + 2]));
+        at += 3 + count;
+        (state, context, words[at - count..at].to_vec())
+    };
+    let groups = (0..words[0]).map(next).collect();
+    (groups, words[at..].iter().all(|&word| word == 0))
+}
+
+/// The subsets as sets, since the runtime's order is its hash map's, and the conflicting alternatives.
+fn compare_written(machine: &Machine, store: &[u32], set: &[u32], random: &mut Random, round: usize) {
+    let mut scratch = vec![random.word(); SCRATCH_WORDS];
+    let mut subsets = dirty_output(random, SUBSET_WORDS);
+    assert_eq!(raw::conflicting_alt_subsets(store, set, &mut scratch, &mut subsets), Ok(()));
+    let (theirs, ours) = (machine.subset_words(), subsets);
+    assert_eq!(ours[0], theirs[0], "round {round}");
+    assert_eq!(groups_in(&ours), groups_in(&theirs), "round {round}");
+    let mut alternatives = dirty_output(random, CONFLICT_WORDS);
+    assert_eq!(raw::conflicting_alts(store, set, &mut scratch, &mut alternatives), Ok(()));
+    assert_eq!(alternatives, machine.conflict_words(), "round {round}");
 }
 
 /// How often each answer was given; a set counts once for each stop list.
@@ -134,6 +171,7 @@ impl Tally {
 fn compare(machine: &mut Machine, random: &mut Random, tally: &mut Tally, round: usize) {
     let (store, set) = (machine.store_words(), machine.set_words());
     let configs = ConfigSet::decode(&set, machine.contexts()).expect("the runtime's sets are sound").configs;
+    compare_written(machine, &store, &set, random, round);
     let mut scratch = vec![random.word(); SCRATCH_WORDS];
     for stops in [vec![], any_stops(random, &configs)] {
         let taken = machine.call(&Record::Stops(stops.clone()));
@@ -144,7 +182,7 @@ fn compare(machine: &mut Machine, random: &mut Random, tally: &mut Tally, round:
             continue;
         }
         let theirs = of_the_runtime(machine);
-        assert_eq!(port, Ok(theirs), "round {round}: {configs:?} with {stops:?}");
+        assert_eq!(port.as_ref(), Ok(&theirs), "round {round}: {configs:?} with {stops:?}");
         tally.count(&theirs, &stops);
     }
 }

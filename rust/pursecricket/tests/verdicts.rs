@@ -4,8 +4,8 @@
 mod common;
 
 use common::dirty_scratch;
-use common::verdicts::{agree, agree_on_all, any_stops, every_kind};
-use judge::layout::{MOST_STOPS, narrow};
+use common::verdicts::{agree, agree_on_all, any_stops, dirty_output, every_kind};
+use judge::layout::{CONFLICT_WORDS, MOST_STOPS, SCRATCH_WORDS, SUBSET_WORDS, narrow};
 use judge::makers::{full_store, random_store, singletons_over_0};
 use judge::random::Random;
 use judge::set_makers::{full_set, random_set};
@@ -136,6 +136,45 @@ fn order_of_refusals() {
         let expected = first.map_or(YES, |(number, _)| Reply::Refused(number));
         let reply = agree(&lent, &VerdictCall::Verdict(stops), &scratch, &faults);
         assert_eq!(reply, expected, "faults {faults:b}");
+    }
+}
+
+/// Output words of any other length are refused before store and set are looked at, and stay.
+#[test]
+fn lengths_of_outputs() {
+    let mut random = Random::new(109);
+    let sound = store_of(3);
+    let unsound = Lent::new(vec![0; 5_634]);
+    let lengths = [0, 1, 256, 257, 258, 1_024, 1_025, 1_026, 5_634, SCRATCH_WORDS];
+    for store in [&sound, &unsound] {
+        for set in [set_of(&[[7, 2, 1], [7, 1, 1]]), full_set(&mut random, 3)] {
+            let lent = LentSet::new(store, set.words());
+            for length in lengths {
+                let calls: [(fn(Vec<u32>) -> VerdictCall, usize); 2] = [
+                    (VerdictCall::ConflictingAltSubsets, SUBSET_WORDS),
+                    (VerdictCall::ConflictingAlts, CONFLICT_WORDS),
+                ];
+                for (call, right) in calls {
+                    let call = call(dirty_output(&mut random, length));
+                    let reply = agree(&lent, &call, &dirty_scratch(&mut random), &length);
+                    assert_eq!(reply == Reply::Refused(2), length != right, "{length}");
+                }
+            }
+        }
+    }
+}
+
+/// 256 subsets of one alternative fill 1,025 words; 256 alternatives of one subset fill 257.
+#[test]
+fn full_outputs() {
+    let (store, mut random) = (store_of(512), Random::new(112));
+    let apart: Vec<[u32; 3]> = (0..256).map(|n| [u32::MAX, u32::MAX - n, n]).collect();
+    let together: Vec<[u32; 3]> = (0..256).rev().map(|n| [0, u32::MAX - n, 511]).collect();
+    for configs in [apart, together] {
+        let set = set_of(&configs);
+        let lent = LentSet::new(&store, set.words());
+        let scratch = dirty_scratch(&mut random);
+        agree_on_all(&lent, &mut random, &scratch, &"full");
     }
 }
 

@@ -7,7 +7,13 @@ use Rattle.store.specs.Calls.{refused}
 use Rattle.answers.specs.declared.structs.Answer.{Answer}
 use Rattle.answers.specs.declared.structs.EntryAnswer.{EntryAnswer}
 use Rattle.sets.specs.Calls.{refused as notDone}
-use Rattle.verdicts.specs.Calls.{refused as notSaid}
+use Rattle.deciding.specs.OneAlt.{oneAlt}
+use Rattle.verdicts.specs.Calls.{refused as notSaid, says, alternative}
+use Rattle.figures.specs.Replies.{told}
+use Rattle.figures.specs.declared.answers.Figures.{Figures}
+use Rattle.figures.specs.declared.answers.Told.the-variants.{All, Refused}
+use Rattle.answers.specs.declared.figuring.FiguresAnswer.{FiguresAnswer}
+use Rattle.answers.specs.FiguresAnswers.{figuresAnswerOf}
 use Rattle.answers.specs.VerdictAnswers.{verdictNumberOf, verdictValueOf, verdictFoundOf, verdictAnswerOf, altAnswerOf}
 use Rattle.answers.specs.SetAnswers.{setNumberOf, setValueOf, setAnswerOf}
 use Rattle.answers.specs.Answers.{numberOf, valueOf, foundOf, answerOf, entryOf}
@@ -43,3 +49,15 @@ module _ (f : Refusal) where
   pub refused-alt-answer : (a : EntryAnswer) → a .refusal ≡ number f → a .found ≡ 0 → a .value ≡ 0 → a ≡ altAnswerOf (notSaid (number f))
   unfolding verdictNumberOf verdictValueOf verdictFoundOf
   refused-alt-answer a n e v = same-entries (a .refusal) (number f) (a .found) 0 (a .value) 0 n e v
+
+-- all figures
+pub told-figures : (f : Figures) (a b c d e : ℕ) → a ≡ verdictFoundOf (alternative (oneAlt (f .unique))) → b ≡ verdictValueOf (alternative (oneAlt (f .unique)))
+    → c ≡ verdictFoundOf (alternative (oneAlt (f .viable))) → d ≡ verdictValueOf (alternative (oneAlt (f .viable))) → e ≡ verdictValueOf (says (f .verdict))
+    → _≡_ {A = FiguresAnswer} (record { refusal = 0; subsets = f .subsets; «has_unique» = a; unique = b; «has_viable» = c; viable = d; verdict = e }) (figuresAnswerOf (told (All f)))
+unfolding verdictNumberOf
+told-figures f a b c d e p q r s t = rw (p, q, r, s, t)
+
+pub refused-figures : (f : Refusal) (n : ℕ) → n ≡ number f
+    → _≡_ {A = FiguresAnswer} (record { refusal = n; subsets = 0; «has_unique» = 0; unique = 0; «has_viable» = 0; viable = 0; verdict = 0 }) (figuresAnswerOf (told (Refused f)))
+unfolding verdictNumberOf verdictValueOf verdictFoundOf
+refused-figures f n e = rw e

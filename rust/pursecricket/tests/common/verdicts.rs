@@ -2,16 +2,17 @@
 
 use std::fmt::Display;
 
-use judge::layout::{MOST_STOPS, narrow};
+use judge::layout::{CONFLICT_WORDS, MOST_STOPS, SUBSET_WORDS, narrow};
 use judge::random::Random;
-use judge::{Config, LentSet, Reply, SetOutcome, VerdictCall};
-use pursecricket::{Alternative, Refusal, raw};
+use judge::{Config, LentSet, Reply, VerdictCall, VerdictOutcome};
+use pursecricket::{Alternative, Figures, Refusal, raw};
 
 use super::assert_words;
 
 /// What the port leaves of these words.
-fn run(call: &VerdictCall, store: &[u32], set: &[u32], scratch: &[u32]) -> SetOutcome {
+fn run(call: &VerdictCall, store: &[u32], set: &[u32], scratch: &[u32]) -> VerdictOutcome {
     let [store, set, mut scratch] = [store, set, scratch].map(<[u32]>::to_vec);
+    let mut output = Vec::new();
     let reply = match call {
         VerdictCall::UniqueAlt => found(raw::unique_alt(&store, &set, &mut scratch)),
         VerdictCall::SingleViableAlt => found(raw::single_viable_alt(&store, &set, &mut scratch)),
@@ -22,13 +23,27 @@ fn run(call: &VerdictCall, store: &[u32], set: &[u32], scratch: &[u32]) -> SetOu
         VerdictCall::Verdict(stops) => {
             raw::has_sll_conflict_terminating_prediction(&store, &set, &mut scratch, stops).map(Reply::Truth)
         }
+        VerdictCall::ConflictingAltSubsets(words) => {
+            output.clone_from(words);
+            raw::conflicting_alt_subsets(&store, &set, &mut scratch, &mut output).map(|()| Reply::Done)
+        }
+        VerdictCall::ConflictingAlts(words) => {
+            output.clone_from(words);
+            raw::conflicting_alts(&store, &set, &mut scratch, &mut output).map(|()| Reply::Done)
+        }
+        VerdictCall::Figures(stops) => raw::figures(&store, &set, &mut scratch, stops).map(figures),
     };
     let reply = reply.unwrap_or_else(|refusal| Reply::Refused(refusal.number()));
-    SetOutcome { reply, store, set, scratch }
+    VerdictOutcome { reply, store, set, scratch, output }
 }
 
 fn found(answer: Result<Option<Alternative>, Refusal>) -> Result<Reply, Refusal> {
     answer.map(|found| Reply::Alternative(found.map(|alternative| alternative.0)))
+}
+
+fn figures(Figures { subsets, unique, viable, verdict }: Figures) -> Reply {
+    let [unique, viable] = [unique, viable].map(|found| found.map(|alternative| alternative.0));
+    Reply::Figures { subsets, unique, viable, verdict }
 }
 
 /// Runs a call and compares all that it leaves with the judge; answers what both replied.
@@ -40,6 +55,7 @@ pub fn agree(lent: &LentSet<'_>, call: &VerdictCall, scratch: &[u32], what: &dyn
         ("store", &port.store, &judged.store),
         ("set", &port.set, &judged.set),
         ("scratch", &port.scratch, &judged.scratch),
+        ("output", &port.output, &judged.output),
     ];
     for (name, port, judged) in pairs {
         assert_words(port, judged, &format_args!("{what}: the {name} after {call:?}"));
@@ -56,14 +72,33 @@ pub fn agree_on_all(
 ) -> Vec<Reply> {
     let configs = lent.set().map_or(&[][..], |set| &set.configs);
     let stops = any_stops(random, configs);
-    every_kind(stops).iter().map(|call| agree(lent, call, scratch, what)).collect()
+    all_kinds(random, stops).iter().map(|call| agree(lent, call, scratch, what)).collect()
 }
 
 /// The same for one of the calls.
 pub fn agree_on_one(lent: &LentSet<'_>, random: &mut Random, scratch: &[u32], what: &dyn Display) -> Reply {
     let configs = lent.set().map_or(&[][..], |set| &set.configs);
-    let calls = every_kind(any_stops(random, configs));
+    let stops = any_stops(random, configs);
+    let calls = all_kinds(random, stops);
     agree(lent, &calls[random.below(calls.len())], scratch, what)
+}
+
+/// The calls that answer a question each, then those that write, over any words, and all figures at once.
+fn all_kinds(random: &mut Random, stops: Vec<u32>) -> Vec<VerdictCall> {
+    let mut calls = every_kind(stops.clone()).to_vec();
+    calls.push(VerdictCall::ConflictingAltSubsets(dirty_output(random, SUBSET_WORDS)));
+    calls.push(VerdictCall::ConflictingAlts(dirty_output(random, CONFLICT_WORDS)));
+    calls.push(VerdictCall::Figures(stops));
+    calls
+}
+
+/// Words to write to that hold anything.
+pub fn dirty_output(random: &mut Random, length: usize) -> Vec<u32> {
+    match random.below(3) {
+        0 => vec![0; length],
+        1 => vec![u32::MAX; length],
+        _ => random.words(length),
+    }
 }
 
 pub fn every_kind(stops: Vec<u32>) -> [VerdictCall; 5] {
