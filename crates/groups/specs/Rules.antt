@@ -7,7 +7,8 @@ use Prim.Native.Nat.{ℕ}
 use Rattle.sets.specs.Config.{Config}
 use Rattle.cases.specs.Bools.{never-both}
 use Rattle.groups.specs.Lists.{Any, In, Before, Rising, which}
-use Rattle.groups.specs.Lists.Laws.{some-map, some-in, in-some, every-in, every-of, pairwise-map, pairwise-both, before-map, before-asym, sorted-unique, rising-unique, some-made, made-some, every-made, pairwise-made}
+use Rattle.groups.specs.Lists.Laws.{some-map, some-in, in-some, every-in, every-of, pairwise-map, pairwise-both, before-map, before-asym}
+use Rattle.groups.specs.Lists.Laws.{sorted-unique, rising-unique, some-made, made-some, every-made, pairwise-made}
 use Rattle.groups.specs.Groups.{Group, altsOf, together, firsts, subset, groups}
 use Rattle.groups.specs.Sentences.{AtPlace, For, Of, Subsets}
 use Rattle.groups.specs.Rising.{Passes, alts-rise, in-passing}

@@ -148,4 +148,7 @@ writing-end {v} {m} {n} {o} w h =
     ∙ ap₂ (λ (k : ℕ) (l : List ℕ). padded altsLength (k ∷ l)) (w .count ∙ ap length e) e
 
 pub writing-fits : {v : List ℕ} {m n : ℕ} {o : List ℕ} → Writing v m n o → (n ≤ mostConfigs) × (length o ≡ altsLength)
-writing-fits {v} {m} w = (omega (arith, w .count, alts-few v m, w .within, w .few), ap length (w .words) ∙ padded-length altsLength (0 ∷ altsTo v m) (omega (arith, alts-few v m, w .within, w .few)))
+writing-fits {v} {m} w = (
+  omega (arith, w .count, alts-few v m, w .within, w .few),
+  ap length (w .words) ∙ padded-length altsLength (0 ∷ altsTo v m) (omega (arith, alts-few v m, w .within, w .few)),
+)

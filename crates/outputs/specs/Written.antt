@@ -177,7 +177,8 @@ pub record Filling (v z : List ℕ) (m at : ℕ) (o : List ℕ) : Type 0 where
   pub words : o ≡ padded subsetsLength (soFar v m)
   pub ends : at ≡ length (soFar v m)
 
-pub filling-none : (v z : List ℕ) → Led v Place (configCount v) z → (n : ℕ) → n ≡ length (groups (configsOf v)) → (o : List ℕ) → o ≡ replicate subsetsLength 0 → Filling v z 0 1 (set o 0 n)
+pub filling-none : (v z : List ℕ) → Led v Place (configCount v) z → (n : ℕ)
+    → n ≡ length (groups (configsOf v)) → (o : List ℕ) → o ≡ replicate subsetsLength 0 → Filling v z 0 1 (set o 0 n)
 unfolding configsIn firsts flatMap padded blank
 filling-none v z x n e o q = record { within = omega arith; led = x; words = ap₂ (λ (w : List ℕ) (k : ℕ). set w 0 k) q e; ends = refl }
 

@@ -71,7 +71,8 @@ module _ (w v z : List ℕ) (n : ℕ) (o : List ℕ) (r : VerdictReply) (p : Lis
           ap (λ (t : List ℕ). verdictLeft r t p) (c ∙ cleared y e)
           ∙ sym (goes-on (given k b ∷ []) u s ∙ unless-next (readRefusal z o) (verdictLeft r zeros p) (given k b) [] h)
 
-      pub left-due : (k : ℕ) → (k ≡ 2 → ⊥) → (b : Bool) → b ≡ true → (u : List ℕ) → OpenedSet w v z ready u → verdictLeft (refused k) x o ≡ readCall n (given k b ∷ []) w v z o r p
+      pub left-due : (k : ℕ) → (k ≡ 2 → ⊥) → (b : Bool) → b ≡ true → (u : List ℕ) → OpenedSet w v z ready u
+          → verdictLeft (refused k) x o ≡ readCall n (given k b ∷ []) w v z o r p
       unfolding readRefusal
       left-due k d b h u s =
           ap (λ (t : List ℕ). verdictLeft (refused k) t o) (c ∙ cleared y e)

@@ -19,7 +19,8 @@ use Rattle.store.specs.Checks.Laws.{absent, Due, once, due-given, given-due, De
 use Rattle.sets.specs.Calls.{lentLengths, lentChecks}
 use Rattle.groups.specs.Answers.{Answer}
 use Rattle.outputs.specs.Outputs.{subsetsLength, altsLength}
-use Rattle.verdicts.specs.Calls.{VerdictReply, refused, says, alternative, written, VerdictLeft, verdictLeft, readRefusal, readCall, mostStops, conflictingAltSubsetsCall, conflictingAltsCall, uniqueAltCall, singleViableAltCall, allSubsetsConflictCall, allSubsetsEqualCall, verdictCall}
+use Rattle.verdicts.specs.Calls.{VerdictReply, refused, says, alternative, written, VerdictLeft, verdictLeft, readRefusal, readCall, mostStops}
+use Rattle.verdicts.specs.Calls.{conflictingAltSubsetsCall, conflictingAltsCall, uniqueAltCall, singleViableAltCall, allSubsetsConflictCall, allSubsetsEqualCall, verdictCall}
 use Rattle.verdicts.specs.Reasons.{askReasons, verdictReasons}
 
 -- ---- what a refusal leaves

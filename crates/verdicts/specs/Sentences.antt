@@ -25,7 +25,8 @@ use Rattle.groups.specs.Equal.{equal-exact}
 use Rattle.groups.specs.Single.{unique-says, viable-says}
 use Rattle.groups.specs.Decided.{verdict-exact}
 use Rattle.outputs.specs.Outputs.{subsetsLength, altsLength, padded, groupWords, subsetsWords, altsWords}
-use Rattle.verdicts.specs.Calls.{VerdictReply, says, alternative, written, VerdictLeft, verdictLeft, readRefusal, readCall, mostStops, conflictingAltSubsetsCall, conflictingAltsCall, uniqueAltCall, singleViableAltCall, allSubsetsConflictCall, allSubsetsEqualCall, verdictCall}
+use Rattle.verdicts.specs.Calls.{VerdictReply, says, alternative, written, VerdictLeft, verdictLeft, readRefusal, readCall, mostStops}
+use Rattle.verdicts.specs.Calls.{conflictingAltSubsetsCall, conflictingAltsCall, uniqueAltCall, singleViableAltCall, allSubsetsConflictCall, allSubsetsEqualCall, verdictCall}
 
 module _ (w v z : List ℕ) (s : SoundLent w v z) where
   abbrev cs : List Config
@@ -53,7 +54,8 @@ module _ (w v z : List ℕ) (s : SoundLent w v z) where
       same : (x : Bool) → says x ≡ says true → x ≡ true
       same x q = cc
 
-  only-exact : (a : Answer) (P : ℕ → Type 0) → ((k : ℕ) → (a ≡ only k) ↔ P k) → (l : VerdictLeft) → l ≡ verdictLeft (alternative a) zeros [] → (k : ℕ) → (l .reply ≡ alternative (only k)) ↔ P k
+  only-exact : (a : Answer) (P : ℕ → Type 0) → ((k : ℕ) → (a ≡ only k) ↔ P k) → (l : VerdictLeft)
+      → l ≡ verdictLeft (alternative a) zeros [] → (k : ℕ) → (l .reply ≡ alternative (only k)) ↔ P k
   only-exact a P d l e k =
       let r : l .reply ≡ alternative a = ap (λ (x : VerdictLeft). x .reply) e in
       (λ q. d k .0 (same a (only k) (sym r ∙ q)), λ p. r ∙ ap alternative (d k .1 p))

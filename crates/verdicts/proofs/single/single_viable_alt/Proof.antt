@@ -42,10 +42,12 @@ returns-2 c =
     let e : open-set .result ≡ ready = enum-told .given .1 in
     let s = rw e at (open-set .ensures) in
     ap (λ (r : VerdictReply). verdictLeft r (clear .last .0) []) (c .found .ensures ∙ ap alternative (viable-alt .ensures .0))
-    ∙ left-answered (args .store .now) (args .set .now) (args .scratch .now) 0 [] _ [] refl (viable-alt .last .1 .0) (clear .last .0) (viable-alt .ensures .1 .lent) (clear .ensures) (open-set .last .1 .1 .0) s
+    ∙ left-answered (args .store .now) (args .set .now) (args .scratch .now) 0 [] _ [] refl (viable-alt .last .1 .0) (clear .last .0)
+    (viable-alt .ensures .1 .lent) (clear .ensures) (open-set .last .1 .1 .0) s
 
 pub single-viable-alt-spec : {M : Type 1} → statement M
 single-viable-alt-spec =
     tie.close
     (tie.spec
-    (λ c κs. search needs) (λ c. search needs) (λ c. search needs) returns (λ c. search needs) viable-alt-requires (λ c κs. search needs) (λ c κs. search needs) (λ c. search needs) returns-2)
+    (λ c κs. search needs) (λ c. search needs) (λ c. search needs) returns (λ c. search needs) viable-alt-requires
+    (λ c κs. search needs) (λ c κs. search needs) (λ c. search needs) returns-2)

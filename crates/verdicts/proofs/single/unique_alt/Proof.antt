@@ -50,4 +50,5 @@ pub unique-alt-spec : {M : Type 1} → statement M
 unique-alt-spec =
     tie.close
     (tie.spec
-    (λ c κs. search needs) (λ c. search needs) (λ c. search needs) returns (λ c. search needs) (λ c κs. search needs) common-alt-requires (λ c κs. search needs) (λ c. search needs) returns-2)
+    (λ c κs. search needs) (λ c. search needs) (λ c. search needs) returns (λ c. search needs) (λ c κs. search needs) common-alt-requires
+    (λ c κs. search needs) (λ c. search needs) returns-2)
