@@ -18,6 +18,7 @@ use Rattle.grouping.specs.Clash.{configsOf}
 use Rattle.grouping.specs.Marks.{eachPicked}
 use Rattle.grouping.specs.declared.inner.traits.Alike.the-variants.{State}
 use Rattle.grouping.specs.declared.inner.marks.Picks.the-variants.{Rivals}
+use Rattle.deciding.specs.Alone.{Counted}
 use Rattle.deciding.specs.Picked.{states-picked}
 
 pub listed-found : (xs : List ℕ) (s i : ℕ) → i < length xs → getD xs i 0 ≡ s → any (eqb s) xs ≡ true
@@ -34,6 +35,12 @@ listed-none (x ∷ xs) s f = rw (ne-eqb s x (λ e. f 0 (omega arith) (sym e))) (
 module _ (stops v : List ℕ) where
   abbrev pub Stop : ℕ → Bool
   Stop i = any (eqb (configAt v i .state)) stops
+
+  -- the configs before n have stopped
+  pub record StopsBefore (n : ℕ) : Type 0 where
+    pub words : Counted v
+    pub less : n < configCount v
+    pub before : (i : ℕ) → i < n → Stop i ≡ true
 
   pub stopped-all : ((i : ℕ) → i < configCount v → Stop i ≡ true) → stopped stops (configsOf v) ≡ true
   unfolding stopped

@@ -17,11 +17,9 @@ use Rattle.store.specs.Checks.Laws.{absent, once, Clear, Decides, passed-clear,
 use Rattle.sets.specs.Config.{Config}
 use Rattle.sets.specs.Words.{setOf}
 use Rattle.sets.specs.Calls.{lentLengths, lentChecks}
-use Rattle.groups.specs.Answers.{Answer, none, only, uniqueAlt, singleViableAlt, verdict}
+use Rattle.groups.specs.Answers.{uniqueAlt, singleViableAlt, verdict}
 use Rattle.outputs.specs.Outputs.{subsetsLength, padded, subsetsWords}
-use Rattle.deciding.specs.OneAlt.{oneAlt}
-use Rattle.deciding.specs.declared.inner.single.OneAlt.{OneAlt}
-use Rattle.deciding.specs.declared.inner.single.OneAlt.the-variants.{Only, Nothing}
+use Rattle.deciding.specs.OneAlt.Laws.{one-tells}
 use Rattle.verdicts.specs.Calls.{Summary, VerdictReply, refused, says, alternative, written, summary, VerdictLeft, verdictLeft, readRefusal, readCall, mostStops}
 use Rattle.verdicts.specs.Calls.{conflictingAltSubsetsCall, uniqueAltCall, singleViableAltCall, verdictCall}
 use Rattle.verdicts.specs.Reasons.{verdictReasons}
@@ -105,18 +103,12 @@ module _ (w v z stops : List ℕ) where
 
 -- ---- a reply tells the answer
 
-alt-tells : (a b : OneAlt) → oneAlt a ≡ oneAlt b → a ≡ b
-alt-tells (Only a) (Only b) e = let n : a .0 ≡ b .0 = cc in ap (λ (k : ℕ). Only (record { 0 = k })) n
-alt-tells (Only a) Nothing e = cc
-alt-tells Nothing (Only b) e = cc
-alt-tells Nothing Nothing e = refl
-
 told-tells : (a b : Told) → told a ≡ told b → a ≡ b
 told-tells (All f) (All g) e =
     let s : summaryOf f ≡ summaryOf g = cc in
     let n : f .subsets ≡ g .subsets = ap (λ (x : Summary). x .subsets) s in
-    let u : f .unique ≡ g .unique = alt-tells (f .unique) (g .unique) (ap (λ (x : Summary). x .unique) s) in
-    let v : f .viable ≡ g .viable = alt-tells (f .viable) (g .viable) (ap (λ (x : Summary). x .viable) s) in
+    let u : f .unique ≡ g .unique = one-tells (f .unique) (g .unique) (ap (λ (x : Summary). x .unique) s) in
+    let v : f .viable ≡ g .viable = one-tells (f .viable) (g .viable) (ap (λ (x : Summary). x .viable) s) in
     let d : f .verdict ≡ g .verdict = ap (λ (x : Summary). x .verdict) s in
     let q : f ≡ g = rw (n, u, v, d) refl in
     ap All q
