@@ -49,6 +49,16 @@ typedef struct {
     uint64_t value;
 } purse_entry_answer;
 
+/* A config, by its six words in their order. */
+typedef struct {
+    uint32_t state;
+    uint32_t alternative;
+    uint32_t context;
+    uint32_t semantic;
+    uint32_t reach;
+    uint32_t provenance;
+} purse_config;
+
 /* A refusal's number; where that is 0, how many subsets, 1 and the unique alternative or 0 where there is none, the same of the viable one, and
    1 where the verdict is yes. */
 typedef struct {
@@ -97,6 +107,9 @@ uint32_t purse_close(const uint32_t *store, size_t store_len, uint32_t *set, siz
 
 /* The alternative that every config has, if there is one. */
 purse_entry_answer purse_unique_alt(const uint32_t *store, size_t store_len, const uint32_t *set, size_t set_len, uint32_t *scratch, size_t scratch_len);
+
+/* The same of a list of configs, of any length; nothing is refused. */
+purse_entry_answer purse_unique_alt_of(const purse_config *configs, size_t configs_len);
 
 /* The alternative that is the smallest of every subset, if there is one. */
 purse_entry_answer purse_single_viable_alt(const uint32_t *store, size_t store_len, const uint32_t *set, size_t set_len, uint32_t *scratch, size_t scratch_len);

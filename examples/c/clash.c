@@ -36,6 +36,10 @@ int main(void) {
     purse_entry_answer unique = purse_unique_alt(store, PURSE_STORE_WORDS, set, PURSE_SET_WORDS, scratch, PURSE_SCRATCH_WORDS);
     printf("one alternative for all: %s\n", unique.found ? "yes" : "none");
 
+    purse_config list[] = {{7, 2, over.value, 0, 0, 0}, {9, 2, both.value, 0, 0, 0}};
+    unique = purse_unique_alt_of(list, 2);
+    printf("one for two configs of a list: %s, %llu\n", unique.found ? "yes" : "none", (unsigned long long)unique.value);
+
     purse_figures_answer all = purse_figures(store, PURSE_STORE_WORDS, set, PURSE_SET_WORDS, scratch, PURSE_SCRATCH_WORDS, 0, 0);
     printf("by one check: %u subsets, unique %s, viable %s, verdict %u\n", all.subsets, all.has_unique ? "yes" : "none", all.has_viable ? "yes" : "none", all.verdict);
     refusal = purse_conflicting_alt_subsets(store, PURSE_STORE_WORDS, set, PURSE_SET_WORDS, scratch, PURSE_SCRATCH_WORDS, subsets, PURSE_SUBSET_WORDS);

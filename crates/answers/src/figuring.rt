@@ -1,4 +1,5 @@
 // What stands at the border for all figures of a set.
+use crate::structs::EntryAnswer;
 use deciding::inner::single::OneAlt;
 use figures::Told;
 ghost use mathlib.Core.Path.{_≡_};
@@ -6,7 +7,7 @@ ghost use Rattle.deciding.specs.OneAlt.{oneAlt};
 ghost use Rattle.verdicts.specs.Calls.{alternative, says};
 ghost use Rattle.figures.specs.Replies.{told};
 ghost use Rattle.answers.specs.FiguresAnswers.{figuresAnswerOf};
-ghost use Rattle.answers.specs.VerdictAnswers.{verdictFoundOf, verdictValueOf};
+ghost use Rattle.answers.specs.VerdictAnswers.{altAnswerOf, verdictFoundOf, verdictValueOf};
 
 // A refusal's number, 0 where there is none; then the number of subsets, 1 and the unique alternative or 0
 // where there is none, the same of the viable one, and 1 for yes as the verdict.
@@ -49,6 +50,18 @@ fn truth_word(yes: bool) -> u32
         return 1;
     }
     0
+}
+
+// The answer with an alternative, or none.
+pub fn one_answer(one: OneAlt) -> EntryAnswer
+    ensures { λ r. ⌜ r ≡ altAnswerOf (alternative (oneAlt one)) ⌝ }
+{
+    let value = alternative_word(one);
+    EntryAnswer {
+        refusal: 0,
+        found: found_word(one),
+        value: value as u64,
+    }
 }
 
 // The answer with all figures.

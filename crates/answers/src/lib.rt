@@ -9,6 +9,7 @@ pub use adding::added_answer;
 pub use adding::settled_number;
 pub use figuring::FiguresAnswer;
 pub use figuring::figures_answer;
+pub use figuring::one_answer;
 pub use judging::alt_answer;
 pub use judging::decided_answer;
 pub use judging::written_number;

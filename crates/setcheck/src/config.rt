@@ -3,6 +3,7 @@ use words::Alternative;
 use words::ContextId;
 use words::SemanticId;
 
+#[repr(C)]
 pub struct AtnConfig {
     pub state: u32,
     pub alt: Alternative,

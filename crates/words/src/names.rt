@@ -4,15 +4,18 @@ ghost use mathlib.Core.Path.{_≡_};
 ghost use Rattle.words.specs.Names.{compacted, expanded};
 
 // The number of a context of a store.
+#[repr(C)]
 pub struct ContextId(pub u32);
 
 // A return state as callers give and get it; the largest u64 is the empty mark.
 pub struct ReturnState(pub u64);
 
 // The number of an alternative.
+#[repr(C)]
 pub struct Alternative(pub u32);
 
 // The number of a semantic context; 0 is none.
+#[repr(C)]
 pub struct SemanticId(pub u32);
 
 // A return state as a store holds it; the largest u32 is the empty mark `$`.

@@ -9,6 +9,7 @@ const PRECEDENCE_FILTER_SUPPRESSED: u32 = 1 << 31;
 ///
 /// State, alternative, semantic context and provenance id are the key: a set has one config of each.
 #[derive(Clone, Copy, Debug, Eq, Hash, Ord, PartialEq, PartialOrd)]
+#[repr(C)]
 pub struct AtnConfig {
     /// The state.
     pub state: u32,

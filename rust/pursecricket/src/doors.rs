@@ -1,5 +1,7 @@
 //! The archive's doors. A slice is a pointer and a length.
 
+use crate::AtnConfig;
+
 /// A refusal number, and the value where that is 0.
 #[derive(Clone, Copy, Debug, Eq, PartialEq)]
 #[repr(C)]
@@ -207,6 +209,8 @@ unsafe extern "C" {
         output: *mut u32,
         output_len: usize,
     ) -> u32;
+
+    pub fn purse_unique_alt_of(configs: *const AtnConfig, configs_len: usize) -> EntryAnswer;
 
     pub fn purse_figures(
         store: *const u32,

@@ -42,4 +42,5 @@ pub use config::AtnConfig;
 pub use config_set::AtnConfigSet;
 pub use figures::Figures;
 pub use names::{Alternative, ContextId, EMPTY_CONTEXT, EMPTY_RETURN_STATE, ReturnState, SemanticContextId};
+pub use raw::unique_alt_of as unique_alt;
 pub use refusal::Refusal;

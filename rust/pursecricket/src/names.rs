@@ -2,6 +2,7 @@
 
 /// The number of a context of one store.
 #[derive(Clone, Copy, Debug, Eq, Hash, Ord, PartialEq, PartialOrd)]
+#[repr(transparent)]
 pub struct ContextId(pub u32);
 
 /// A return state: at most 4294967294, or [`EMPTY_RETURN_STATE`].
@@ -10,10 +11,12 @@ pub struct ReturnState(pub u64);
 
 /// An alternative of a decision.
 #[derive(Clone, Copy, Debug, Eq, Hash, Ord, PartialEq, PartialOrd)]
+#[repr(transparent)]
 pub struct Alternative(pub u32);
 
 /// The number of a semantic context, which the caller keeps; 0 is none.
 #[derive(Clone, Copy, Debug, Default, Eq, Hash, Ord, PartialEq, PartialOrd)]
+#[repr(transparent)]
 pub struct SemanticContextId(pub u32);
 
 /// The context of the empty stack alone; every store has it.

@@ -11,7 +11,7 @@ use crate::doors::{
     purse_all_subsets_conflict, purse_all_subsets_equal, purse_close, purse_conflicting_alt_subsets,
     purse_conflicting_alts, purse_figures, purse_fresh, purse_fresh_set, purse_has_empty_path,
     purse_has_sll_conflict_terminating_prediction, purse_is_empty, purse_len, purse_merge, purse_parent,
-    purse_return_state, purse_single_viable_alt, purse_singleton, purse_unique_alt,
+    purse_return_state, purse_single_viable_alt, purse_singleton, purse_unique_alt, purse_unique_alt_of,
 };
 use crate::{Alternative, AtnConfig, ContextId, Figures, Refusal, ReturnState};
 
@@ -175,6 +175,15 @@ pub fn unique_alt(store: &[u32], set: &[u32], scratch: &mut [u32]) -> Result<Opt
     ask_alt(purse_unique_alt, store, set, scratch)
 }
 
+/// The alternative that every config of a list has, which may have any length; `None` where they differ, and of
+/// an empty list. Nothing is refused.
+pub fn unique_alt_of(configs: &[AtnConfig]) -> Option<Alternative> {
+    // SAFETY: the pointer and the length are those of one slice, which outlives the call and is only read;
+    // a config has the layout of C.
+    let answer = unsafe { purse_unique_alt_of(configs.as_ptr(), configs.len()) };
+    entry(answer).expect("nothing is refused").map(alternative)
+}
+
 /// The alternative that is the least of every subset; `None` where they differ, and of a set without subsets.
 pub fn single_viable_alt(
     store: &[u32],
@@ -308,8 +317,11 @@ fn ask_alt(
     let answer = unsafe {
         door(store.as_ptr(), store.len(), set.as_ptr(), set.len(), scratch.as_mut_ptr(), scratch.len())
     };
-    let found = entry(answer)?;
-    Ok(found.map(|alt| Alternative(u32::try_from(alt).expect("an alternative is a word"))))
+    Ok(entry(answer)?.map(alternative))
+}
+
+fn alternative(value: u64) -> Alternative {
+    Alternative(u32::try_from(value).expect("an alternative is a word"))
 }
 
 fn write(

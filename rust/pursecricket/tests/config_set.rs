@@ -4,7 +4,7 @@ use std::collections::BTreeSet;
 
 use pursecricket::{
     Alternative, AtnConfig, AtnConfigSet, ContextArena, ContextId, EMPTY_CONTEXT, Figures, Refusal,
-    ReturnState, SemanticContextId, raw,
+    ReturnState, SemanticContextId, raw, unique_alt,
 };
 
 const MARK: u32 = 1 << 31;
@@ -213,6 +213,32 @@ fn subsets_and_figures() {
     assert_eq!(set.conflicting_alt_subsets(&small), Err(Refusal::UnsoundSet));
     assert_eq!(set.conflicting_alts(&small), Err(Refusal::UnsoundSet));
     assert_eq!(set.figures(&small, &[]), Err(Refusal::UnsoundSet));
+}
+
+/// Over a list of configs, of any length, with all else in them as it comes; one that differs anywhere counts.
+#[test]
+fn unique_alt_of_a_list() {
+    assert_eq!(unique_alt(&[]), None);
+    for alt in [0, 1, u32::MAX] {
+        for length in [1, 2, 3, 255, 256, 257, 10_000] {
+            let any = |n: u32| AtnConfig {
+                state: n,
+                alt: Alternative(alt),
+                context: ContextId(n.wrapping_mul(7)),
+                semantic_context: SemanticContextId(n ^ 5),
+                reaches_into_outer_context: !n,
+                semantic_provenance_and_flags: n << 31,
+            };
+            let mut configs: Vec<AtnConfig> = (0..length).map(any).collect();
+            assert_eq!(unique_alt(&configs), Some(Alternative(alt)), "{length}");
+            for at in [0, length / 2, length - 1] {
+                configs[at as usize].alt = Alternative(alt ^ 1);
+                let expected = if length == 1 { Some(Alternative(alt ^ 1)) } else { None };
+                assert_eq!(unique_alt(&configs), expected, "{at} of {length}");
+                configs[at as usize].alt = Alternative(alt);
+            }
+        }
+    }
 }
 
 /// Alternative 0 is one, and 4294967295 another.

@@ -13,7 +13,7 @@ use judge::set_makers::MARK;
 use oracle::prediction::driver::Machine;
 use oracle::record::{Config, Mode, Record};
 use oracle::reply::{Reply, Verdict};
-use pursecricket::{Refusal, raw};
+use pursecricket::{Alternative, AtnConfig, ContextId, Refusal, SemanticContextId, raw};
 
 /// How many states, alternatives and contexts the configs of a set are picked from.
 struct Shape {
@@ -107,6 +107,18 @@ fn of_the_port(store: &[u32], set: &[u32], scratch: &mut [u32], stops: &[u32]) -
     Ok(said)
 }
 
+/// A config as a record of the crate's.
+fn record(config: &judge::Config) -> AtnConfig {
+    AtnConfig {
+        state: config.state,
+        alt: Alternative(config.alternative),
+        context: ContextId(config.context),
+        semantic_context: SemanticContextId(config.semantic),
+        reaches_into_outer_context: config.reach,
+        semantic_provenance_and_flags: config.provenance,
+    }
+}
+
 /// A subset: state, context and alternatives.
 type Group = (u32, u32, Vec<u32>);
 
@@ -172,6 +184,7 @@ fn compare(machine: &mut Machine, random: &mut Random, tally: &mut Tally, round:
     let (store, set) = (machine.store_words(), machine.set_words());
     let configs = ConfigSet::decode(&set, machine.contexts()).expect("the runtime's sets are sound").configs;
     compare_written(machine, &store, &set, random, round);
+    let records: Vec<AtnConfig> = configs.iter().map(record).collect();
     let mut scratch = vec![random.word(); SCRATCH_WORDS];
     for stops in [vec![], any_stops(random, &configs)] {
         let taken = machine.call(&Record::Stops(stops.clone()));
@@ -182,6 +195,8 @@ fn compare(machine: &mut Machine, random: &mut Random, tally: &mut Tally, round:
             continue;
         }
         let theirs = of_the_runtime(machine);
+        let unique = pursecricket::unique_alt(&records).map(|alternative| alternative.0);
+        assert_eq!(unique, theirs.unique, "round {round}: {configs:?}");
         assert_eq!(port.as_ref(), Ok(&theirs), "round {round}: {configs:?} with {stops:?}");
         tally.count(&theirs, &stops);
     }

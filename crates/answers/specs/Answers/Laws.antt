@@ -7,6 +7,7 @@ use Rattle.store.specs.Calls.{refused}
 use Rattle.answers.specs.declared.structs.Answer.{Answer}
 use Rattle.answers.specs.declared.structs.EntryAnswer.{EntryAnswer}
 use Rattle.sets.specs.Calls.{refused as notDone}
+use Rattle.groups.specs.Answers.{Answer as Alt}
 use Rattle.deciding.specs.OneAlt.{oneAlt}
 use Rattle.verdicts.specs.Calls.{refused as notSaid, says, alternative}
 use Rattle.figures.specs.Replies.{told}
@@ -49,6 +50,12 @@ module _ (f : Refusal) where
   pub refused-alt-answer : (a : EntryAnswer) → a .refusal ≡ number f → a .found ≡ 0 → a .value ≡ 0 → a ≡ altAnswerOf (notSaid (number f))
   unfolding verdictNumberOf verdictValueOf verdictFoundOf
   refused-alt-answer a n e v = same-entries (a .refusal) (number f) (a .found) 0 (a .value) 0 n e v
+
+-- an alternative, or none
+pub one-answers : (x : Alt) (f v : ℕ) → f ≡ verdictFoundOf (alternative x) → v ≡ verdictValueOf (alternative x)
+    → _≡_ {A = EntryAnswer} (record { refusal = 0; found = f; value = v }) (altAnswerOf (alternative x))
+unfolding verdictNumberOf
+one-answers x f v d e = rw (d, e)
 
 -- all figures
 pub told-figures : (f : Figures) (a b c d e : ℕ) → a ≡ verdictFoundOf (alternative (oneAlt (f .unique))) → b ≡ verdictValueOf (alternative (oneAlt (f .unique)))
