@@ -1,36 +1,65 @@
 -- Two answers that satisfy the decoder's contract for the same bytes are equal, case and values. Nothing here has to be believed.
 use mathlib.Core.Path.{_≡_, refl, sym, ap, _∙_}
 use mathlib.Core.List.{List}
-use Prim.Native.Nat.{ℕ}
+use Prim.Native.Nat.{ℕ, _+_, _*_, _-_}
+use native.Mathlib.Omega.{arith}
+use lib.ListN.{length}
+use Rattle.sets.specs.Config.{Config}
+use Rattle.setcheck.specs.declared.config.AtnConfig.{AtnConfig}
 use Rattle.format.specs.declared.records.Record.{Record}
-use Rattle.format.specs.declared.records.Record.the-variants.{Singleton, Merge, Show}
+use Rattle.format.specs.declared.records.Record.the-variants.{Singleton, Merge, NewSet, Add, Stops, Verdict, Show, Close}
 use Rattle.format.specs.declared.records.Step.{Step}
 use Rattle.format.specs.declared.records.Step.the-variants.{Found, End, Malformed}
-use Rattle.format.specs.Format.{singleton, merge, show, Reading, found, ended, malformed, readAt, Record as Call}
-use Rattle.format.specs.Answers.{callIn, reading}
+use Rattle.format.specs.Bytes.{wordsAt}
+use Rattle.format.specs.Bytes.Laws.{length-words}
+use Rattle.format.specs.Format.{singleton, merge, newSet, add, stops, verdict, show, close, Reading, found, ended, malformed, readAt, Record as Call}
+use Rattle.format.specs.Answers.{callIn, reading, Before, Placed}
 
--- the answer, back from what it stands for
-unfoldable recordOf : Call → Record
-recordOf (singleton p r) = Singleton (record { 0 = p }) (record { 0 = r })
-recordOf (merge a b m) = Merge (record { 0 = a }) (record { 0 = b }) m
-recordOf (show c) = Show (record { 0 = c })
+unfoldable atnConfig : Config → AtnConfig
+atnConfig x = record {
+  state = x .state;
+  alt = record { 0 = x .alternative };
+  context = record { 0 = x .context };
+  «semantic_context» = record { 0 = x .semantic };
+  «reaches_into_outer_context» = x .reach;
+  «semantic_provenance_and_flags» = x .provenance;
+}
 
-record-back : (r : Record) → recordOf (callIn r) ≡ r
-unfolding recordOf
-record-back (Singleton p r) = refl
-record-back (Merge a b m) = refl
-record-back (Show c) = refl
+-- the answer, back from what it stands for; stop states stand right before the place e
+unfoldable recordOf : ℕ → Call → Record
+recordOf e (singleton p r) = Singleton (record { 0 = p }) (record { 0 = r })
+recordOf e (merge a b m) = Merge (record { 0 = a }) (record { 0 = b }) m
+recordOf e (newSet m) = NewSet m
+recordOf e (add x) = Add (atnConfig x)
+recordOf e (stops xs) = Stops (e - 4 * length xs) (length xs)
+recordOf e verdict = Verdict
+recordOf e (show c) = Show (record { 0 = c })
+recordOf e close = Close
+
+record-back : (s : List ℕ) (e : ℕ) (r : Record) → Before s e r → recordOf e (callIn s r) ≡ r
+unfolding recordOf atnConfig
+record-back s e (Singleton p r) b = refl
+record-back s e (Merge x y m) b = refl
+record-back s e (NewSet m) b = refl
+record-back s e (Add x) b = refl
+record-back s e (Stops p n) b =
+    let l : length (wordsAt s p n) ≡ n = length-words s p n in
+    let q : e - 4 * n ≡ p = omega (arith, b .0) in
+    ap (λ (k : ℕ). Stops (e - 4 * k) k) l ∙ ap (λ (k : ℕ). Stops k n) q
+record-back s e Verdict b = refl
+record-back s e (Show c) b = refl
+record-back s e Close b = refl
 
 unfoldable answerOf : Reading → Step
-answerOf (found r j) = Found (recordOf r) j
+answerOf (found r j) = Found (recordOf j r) j
 answerOf ended = End
 answerOf malformed = Malformed
 
-answer-back : (a : Step) → answerOf (reading a) ≡ a
+answer-back : (s : List ℕ) (a : Step) → Placed s a → answerOf (reading s a) ≡ a
 unfolding answerOf
-answer-back (Found r j) = ap (λ (q : Record). Found q j) (record-back r)
-answer-back End = refl
-answer-back Malformed = refl
+answer-back s (Found r j) b = ap (λ (q : Record). Found q j) (record-back s j r b)
+answer-back s End b = refl
+answer-back s Malformed b = refl
 
-pub decode-determined : (s : List ℕ) (i : ℕ) (a b : Step) → reading a ≡ readAt s i → reading b ≡ readAt s i → a ≡ b
-decode-determined s i a b p q = sym (answer-back a) ∙ ap answerOf (p ∙ sym q) ∙ answer-back b
+pub decode-determined : (s : List ℕ) (i : ℕ) (a b : Step) → reading s a ≡ readAt s i → Placed s a → reading s b ≡ readAt s i → Placed s b → a ≡ b
+decode-determined s i a b p pa q qb = sym (answer-back s a pa) ∙ ap answerOf (p ∙ sym q) ∙ answer-back s b qb

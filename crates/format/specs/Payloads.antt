@@ -10,21 +10,18 @@ use lib.ListN.{getD}
 pub data Payload : Type 0 where
   exactly : ℕ → Payload
   fours : Payload
-  later : Payload → Payload
   none : Payload
 
 -- "Kinds and lengths: 1 singleton 12; 2 merge 9; 3 new set 1; 4 add 24; 5 stop states, a multiple of 4; 6 verdict 0; 7 show 4; 8 close 0";
--- there is no kind 0, and `later` marks a kind that is not served yet
+-- there is no kind 0
 unfoldable pub payloads : List Payload
-payloads =
-    none ∷ exactly 12 ∷ exactly 9 ∷ later (exactly 1) ∷ later (exactly 24) ∷ later fours ∷ later (exactly 0) ∷ exactly 4 ∷ later (exactly 0) ∷ []
+payloads = none ∷ exactly 12 ∷ exactly 9 ∷ exactly 1 ∷ exactly 24 ∷ fours ∷ exactly 0 ∷ exactly 4 ∷ exactly 0 ∷ []
 
 unfoldable pub payloadOf : ℕ → Payload
 payloadOf k = getD payloads k none
 
--- may a record have n bytes of payload; a kind that is not served counts as unknown
+-- may a record have n bytes of payload
 unfoldable pub accepts : Payload → ℕ → Bool
 accepts (exactly m) n = eqb n m
 accepts fours n = eqb (n % 4) 0
-accepts (later p) n = false
 accepts none n = false

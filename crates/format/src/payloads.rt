@@ -6,28 +6,18 @@ ghost use Rattle.format.specs.Table.{entry};
 // Any multiple of 4.
 const VARIABLE: u32 = 16384;
 
-// No kind, or, with the length or mark of its payload added, a kind that is not served yet.
-const NOT_SERVED: u32 = 32768;
+// No kind.
+const NO_KIND: u32 = 32768;
 
 // By kind: none, singleton, merge, new set, add, stop states, verdict, show, close.
-const PAYLOADS: [u32; 9] = [
-    NOT_SERVED,
-    12,
-    9,
-    NOT_SERVED + 1,
-    NOT_SERVED + 24,
-    NOT_SERVED + VARIABLE,
-    NOT_SERVED,
-    4,
-    NOT_SERVED,
-];
+const PAYLOADS: [u32; 9] = [NO_KIND, 12, 9, 1, 24, VARIABLE, 0, 4, 0];
 
 // The table's entry of a kind; a kind past the table is none.
 fn entry_of(kind: usize) -> u32
     ensures { λ r. ⌜ r ≡ entry (payloadOf kind) ⌝ }
 {
     if 8 < kind {
-        return NOT_SERVED;
+        return NO_KIND;
     }
     PAYLOADS[kind]
 }
@@ -37,7 +27,7 @@ pub fn payload_fits(kind: u32, length: u32) -> bool
     ensures { λ r. ⌜ r ≡ accepts (payloadOf kind) length ⌝ }
 {
     let entry = entry_of(kind as usize);
-    if NOT_SERVED <= entry {
+    if NO_KIND <= entry {
         return false;
     }
     if entry == VARIABLE {

@@ -1,5 +1,5 @@
 -- The subsets of a set's configs, and the answers on them. To believe: Lists, Groups, Answers, Sentences.
--- To read beside document 01: Rules, Conflicts, Equal, Single, Decided, Examples. For code: Last, Parts, Counted, Room. For readers: Renamed.
+-- To read beside document 01: Rules, Conflicts, Equal, Single, Decided. For code: Last, Parts, Counted, Room. For readers: Renamed.
 pub mod Lists
 pub mod Groups
 pub mod Answers
@@ -11,7 +11,6 @@ pub mod Conflicts
 pub mod Equal
 pub mod Single
 pub mod Decided
-pub mod Examples
 pub mod Last
 pub mod Parts
 pub mod Room

@@ -1,10 +1,12 @@
 -- To believe: the lines of a script's output, as bytes.
 pub mod Laws
+use mathlib.Core.Bool.{Bool, true, false}
 use mathlib.Core.List.{List, [], _∷_, _++_}
 use Prim.Native.Nat.{ℕ}
 use Rattle.arena.specs.Store.{Node, end, dollar, push}
 use Rattle.arena.specs.Kinds.{size}
 use Rattle.layout.specs.Layout.{count, used}
+use Rattle.groups.specs.Answers.{Answer, none, only}
 use Rattle.lines.specs.Decimal.{decimal}
 
 -- bytes of the buffer in which a line is laid
@@ -22,6 +24,36 @@ numberLine letter n = letter ∷ spaced n ++ 10 ∷ []
 -- "`C` number"
 unfoldable pub contextLine : ℕ → List ℕ
 contextLine n = numberLine 67 n
+
+-- "`N`"
+unfoldable pub newSetLine : List ℕ
+newSetLine = 78 ∷ 10 ∷ []
+
+-- "`A` 1 inserted or 0 merged"
+unfoldable pub addedLine : ℕ → List ℕ
+addedLine n = numberLine 65 n
+
+-- "`S` states held"
+unfoldable pub stopsLine : ℕ → List ℕ
+stopsLine n = numberLine 83 n
+
+-- "Where there is no alternative, 0 is printed"
+unfoldable pub alternativeBytes : Answer → List ℕ
+alternativeBytes none = spaced 0
+alternativeBytes (only a) = spaced a
+
+-- "verdict 1 or 0"
+unfoldable pub verdictBytes : Bool → List ℕ
+verdictBytes true = spaced 1
+verdictBytes false = spaced 0
+
+-- "`V` subset count, unique alternative, viable alternative, verdict 1 or 0"
+unfoldable pub figuresLine : ℕ → Answer → Answer → Bool → List ℕ
+figuresLine n unique viable verdict = 86 ∷ spaced n ++ alternativeBytes unique ++ alternativeBytes viable ++ verdictBytes verdict ++ 10 ∷ []
+
+-- "`K`"
+unfoldable pub closedLine : List ℕ
+closedLine = 75 ∷ 10 ∷ []
 
 -- "A refusal prints `R` number"
 unfoldable pub refusalLine : ℕ → List ℕ

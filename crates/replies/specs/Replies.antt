@@ -1,22 +1,45 @@
 -- To believe: what each record's call prints and leaves, as a function of the lent words.
 pub mod Laws
-use mathlib.Core.List.{List, []}
-use Prim.Native.Nat.{ℕ}
+use mathlib.Core.Bool.{Bool, true, false, not}
+use mathlib.Core.List.{List, [], _∷_, _++_}
+use Prim.Native.Nat.{ℕ, _-_}
+use lib.Dec.{eqb, ltb}
+use lib.ListN.{length, getD, take, drop}
 use Rattle.arena.specs.Store.{nodeAt}
+use Rattle.layout.specs.Layout.{scratchWords, blank}
 use Rattle.layout.specs.Decode.{storeOf}
-use Rattle.store.specs.Calls.{Reply, refused, done, shown, context, count, state, holds, none, Left, asked}
+use Rattle.store.specs.Checks.{given, unless}
+use Rattle.store.specs.Calls.{Reply, refused, done, shown, context, count, state, holds, none, Left, zeros, asked}
+use Rattle.sets.specs.Calls.{SetReply, added, SetLeft, setLeft, freshSetCall, addCall, closeCall}
+use Rattle.sets.specs.Calls.{refused as setRefused, done as setDone}
+use Rattle.verdicts.specs.Calls.{VerdictReply, says, alternative, written, summary, VerdictLeft, mostStops}
+use Rattle.verdicts.specs.Calls.{refused as verdictRefused}
+use Rattle.figures.specs.Calls.{figuresCall}
 use Rattle.interning.specs.SingletonCall.{singletonCall}
 use Rattle.contexts.specs.MergeCall.{mergeCall}
-use Rattle.format.specs.Format.{Record, singleton, merge, show}
-use Rattle.lines.specs.Lines.{contextLine, refusalLine, entriesLine}
+use Rattle.format.specs.Format.{Record, singleton, merge, newSet, add, stops, verdict, show, close}
+use Rattle.lines.specs.Lines.{contextLine, newSetLine, addedLine, stopsLine, figuresLine, closedLine, refusalLine, entriesLine}
 
 -- the words that are lent to a script
 pub record Lent : Type 0 where
   pub store : List ℕ
+  pub set : List ℕ
+  pub stops : List ℕ
   pub scratch : List ℕ
 
-abbrev pub lent : List ℕ → List ℕ → Lent
-lent w z = record { store = w; scratch = z }
+abbrev pub lent : List ℕ → List ℕ → List ℕ → List ℕ → Lent
+lent w v t z = record { store = w; set = v; stops = t; scratch = z }
+
+-- the bytes that were printed, and every lent word after that
+pub record Printed : Type 0 where
+  pub reply : List ℕ
+  pub words : Lent
+
+-- the scratch after what does not work in it: "all 0 on return"; one of a wrong length stays as it was
+unfoldable pub wiped : List ℕ → List ℕ
+wiped z = elim (eqb (length z) scratchWords) [ true ↦ zeros | false ↦ z ]
+
+-- ---- calls on contexts
 
 -- the line of a reply; `shown` prints the bytes given
 unfoldable pub lineOf : List ℕ → Reply → List ℕ
@@ -29,16 +52,62 @@ lineOf e (state r) = []
 lineOf e (holds b) = []
 lineOf e none = []
 
--- the bytes that were printed, and every lent word after that
-pub record Printed : Type 0 where
-  pub reply : List ℕ
-  pub words : Lent
+abbrev pub onStore : Lent → List ℕ → Left → Printed
+onStore l e x = record { reply = lineOf e (x .reply); words = lent (x .store) (l .set) (l .stops) (x .scratch) }
 
-abbrev pub printed : List ℕ → Left → Printed
-printed e x = record { reply = lineOf e (x .reply); words = lent (x .store) (x .scratch) }
+-- ---- calls on the set
 
--- a record's call; `show` reads a known context of a sound store
+-- the line of a reply; `done` prints the bytes given
+unfoldable pub setLineOf : List ℕ → SetReply → List ℕ
+setLineOf e (setRefused n) = refusalLine n
+setLineOf e setDone = e
+setLineOf e (added n) = addedLine n
+
+abbrev pub onSet : Lent → List ℕ → SetLeft → Printed
+onSet l e x = record { reply = setLineOf e (x .reply); words = lent (x .store) (x .set) (l .stops) (x .scratch) }
+
+-- a new set works in no scratch: it is 0 after, and "untouched on 2"
+abbrev pub afterNew : List ℕ → SetReply → List ℕ
+afterNew z (setRefused n) = z
+afterNew z setDone = wiped z
+afterNew z (added n) = wiped z
+
+unfoldable pub newSetCall : List ℕ → List ℕ → List ℕ → Bool → SetLeft
+newSetCall w v z full = let x = freshSetCall v full in setLeft (x .0) w (x .1) (afterNew z (x .0))
+
+-- ---- stop states: 65 words, their number, the states, zeros
+
+abbrev pub stopWords : List ℕ → List ℕ
+stopWords xs = length xs ∷ xs ++ blank (mostStops - length xs)
+
+-- the states that such words hold
+unfoldable pub heldStops : List ℕ → List ℕ
+heldStops t = take (getD t 0 0) (drop 1 t)
+
+-- "replaces the list; on `R 10` the old one stays"
+unfoldable pub stopsCall : List ℕ → List ℕ → List ℕ × List ℕ
+stopsCall t xs = unless (given 10 (ltb mostStops (length xs)) ∷ []) (λ n. (refusalLine n, t)) (stopsLine (length xs), stopWords xs)
+
+-- ---- the verdict
+
+unfoldable pub verdictLineOf : VerdictReply → List ℕ
+verdictLineOf (verdictRefused n) = refusalLine n
+verdictLineOf (summary f) = figuresLine (f .subsets) (f .unique) (f .viable) (f .verdict)
+verdictLineOf (says b) = []
+verdictLineOf (alternative a) = []
+verdictLineOf written = []
+
+abbrev pub onVerdict : Lent → VerdictLeft → Printed
+onVerdict l x = record { reply = verdictLineOf (x .reply); words = lent (l .store) (l .set) (l .stops) (x .scratch) }
+
+-- ---- a record's call; `show` reads a known context of a sound store
+
 unfoldable pub callOf : Lent → Record → Printed
-callOf l (singleton p r) = printed [] (singletonCall (l .store) (l .scratch) p r)
-callOf l (merge a b m) = printed [] (mergeCall (l .store) (l .scratch) a b m)
-callOf l (show c) = printed (entriesLine (nodeAt (storeOf (l .store)) c)) (asked (l .store) (l .scratch) c shown)
+callOf l (singleton p r) = onStore l [] (singletonCall (l .store) (l .scratch) p r)
+callOf l (merge a b m) = onStore l [] (mergeCall (l .store) (l .scratch) a b m)
+callOf l (newSet m) = onSet l newSetLine (newSetCall (l .store) (l .set) (l .scratch) (not m))
+callOf l (add x) = onSet l [] (addCall (l .store) (l .set) (l .scratch) x)
+callOf l (stops xs) = let x = stopsCall (l .stops) xs in record { reply = x .0; words = lent (l .store) (l .set) (x .1) (wiped (l .scratch)) }
+callOf l verdict = onVerdict l (figuresCall (l .store) (l .set) (l .scratch) (heldStops (l .stops)))
+callOf l (show c) = onStore l (entriesLine (nodeAt (storeOf (l .store)) c)) (asked (l .store) (l .scratch) c shown)
+callOf l close = onSet l closedLine (closeCall (l .store) (l .set) (l .scratch))

@@ -8,7 +8,7 @@ use Rattle.store.specs.Check.{Tells}
 use Rattle.script.specs.declared.run.Ran.{Ran}
 use Rattle.script.specs.declared.run.Ran.the-variants.{Next, Over}
 use Rattle.replies.specs.Replies.{Lent}
-use Rattle.script.specs.Steps.{goes, over, stepOf, scriptReplies}
+use Rattle.script.specs.Steps.{fresh, goes, over, stepOf, scriptReplies}
 use Rattle.script.specs.Answers.{Behind, behind, laidOut}
 
 -- the answer, back from what it stands for
@@ -19,6 +19,9 @@ ran-back : (r : Ran) (b : List ℕ) (l : Lent) → ranOf (behind r b l) ≡ r
 unfolding ranOf
 ran-back (Next n j) b l = refl
 ran-back (Over n) b l = refl
+
+pub start-determined : (l m : Lent) → l ≡ fresh → m ≡ fresh → l ≡ m
+start-determined l m p q = p ∙ sym q
 
 pub step-determined : (s : List ℕ) (i : ℕ) (l : Lent) (o : List ℕ) (a b : Ran) (u v : List ℕ) (m k : Lent)
     → behind a u m ≡ laidOut o (stepOf s i l) → behind b v k ≡ laidOut o (stepOf s i l) → (a ≡ b) × (u ≡ v) × (m ≡ k)

@@ -1,14 +1,22 @@
 -- Steps that were made so far, from the fresh words on, and where they lead. Nothing here has to be believed.
 use mathlib.Core.Path.{_≡_, sym, ap, _∙_}
+use mathlib.Core.Bool.{true}
 use mathlib.Core.List.{List, [], _∷_, _++_, append-assoc}
 use Prim.Native.Nat.{ℕ, suc, _+_, _≤_}
 use native.Mathlib.Omega.{arith}
 use lib.ListN.{length, replicate, take}
 use Rattle.arena.specs.Store.{dollar}
-use Rattle.layout.specs.Layout.{storeWords, scratchWords}
+use borrow.Author.Tests.{eq-eqb}
+use Rattle.layout.specs.Layout.{storeWords, scratchWords, blank}
 use Rattle.layout.specs.Encode.{wordsOf}
 use Rattle.store.specs.Calls.{Reply, freshCall}
+use Rattle.store.specs.Checks.{unless}
 use Rattle.store.specs.Admit.{cleared}
+use Rattle.sets.specs.Layout.{setWordsLength}
+use Rattle.sets.specs.Sets.{emptySet}
+use Rattle.sets.specs.Words.{setWords}
+use Rattle.sets.specs.Calls.{SetReply, freshSetCall}
+use Rattle.sets.specs.Calls.{done as setDone}
 use Rattle.lines.specs.Laid.{laid}
 use Rattle.lines.specs.Laid.Laws.{length-laid, take-laid}
 use Rattle.lines.specs.Lines.{endLine}
@@ -21,13 +29,16 @@ use Rattle.script.specs.Steps.Laws.{after?, step-forward, run-over, run-
 
 -- ---- the start
 
--- a fresh store and a cleared scratch are what a script starts from
-pub fresh-is : (w u y z : List ℕ) (r : Reply) → (r, u) ≡ freshCall w → z ≡ replicate (length y) 0 → length w ≡ storeWords → length y ≡ scratchWords
-    → lent u z ≡ fresh
-unfolding fresh
-fresh-is w u y z r e q lw ly =
-    let g : u ≡ wordsOf (dollar ∷ []) = ap (λ (x : Reply × List ℕ). x .1) (e ∙ fresh-goes w lw) in
-    rw (g, q ∙ cleared y ly)
+-- a fresh store, a fresh set, cleared stop states and a cleared scratch are what a script starts from
+pub fresh-is : (w u : List ℕ) (r : Reply) → (r, u) ≡ freshCall w → length w ≡ storeWords
+    → (v s : List ℕ) (a : SetReply) → (a, s) ≡ freshSetCall v true → length v ≡ setWordsLength
+    → (t : List ℕ) → t ≡ replicate 65 0 → (y z : List ℕ) → z ≡ replicate (length y) 0 → length y ≡ scratchWords → lent u s t z ≡ fresh
+unfolding fresh freshSetCall unless blank
+fresh-is w u r e lw v s a f lv t g y z q ly =
+    let store : u ≡ wordsOf (dollar ∷ []) = ap (λ (x : Reply × List ℕ). x .1) (e ∙ fresh-goes w lw) in
+    let fresh : freshSetCall v true ≡ (setDone, setWords (emptySet true)) = rw (eq-eqb (length v) setWordsLength lv, unless) in
+    let set : s ≡ setWords (emptySet true) = ap (λ (x : SetReply × List ℕ). x .1) (f ∙ fresh) in
+    rw (store, set, g, q ∙ cleared y ly)
 
 -- ---- one step
 

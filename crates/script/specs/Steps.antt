@@ -3,23 +3,24 @@ pub mod Laws
 use mathlib.Core.Bool.{true, false}
 use mathlib.Core.List.{List, [], _∷_, _++_}
 use Prim.Native.Nat.{ℕ, zero, suc}
-use lib.Dec.{eqb, ltb}
+use lib.Dec.{ltb}
 use lib.ListN.{length}
 use Rattle.arena.specs.Store.{dollar}
-use Rattle.layout.specs.Layout.{scratchWords}
 use Rattle.layout.specs.Encode.{wordsOf}
 use Rattle.store.specs.Calls.{zeros}
+use Rattle.sets.specs.Sets.{emptySet}
+use Rattle.sets.specs.Words.{setWords}
 use Rattle.format.specs.Format.{Reading, found, ended, malformed, readAt}
 use Rattle.lines.specs.Lines.{refusalLine, endLine}
-use Rattle.replies.specs.Replies.{Lent, lent, Printed, callOf}
+use Rattle.replies.specs.Replies.{Lent, lent, Printed, wiped, stopWords, callOf}
 
 -- bytes that a script may have
 abbrev pub mostBytes : ℕ
 mostBytes = 32768
 
--- the words that a script starts from: "over a fresh store"
+-- the words that a script starts from: "over a fresh store, an empty full-context set and no stop states"
 unfoldable pub fresh : Lent
-fresh = lent (wordsOf (dollar ∷ [])) zeros
+fresh = lent (wordsOf (dollar ∷ [])) (setWords (emptySet true)) (stopWords []) zeros
 
 -- ---- a step
 
@@ -32,13 +33,9 @@ pub record Stepped : Type 0 where
   pub after : After
   pub printed : Printed
 
--- the scratch: "all 0 on return"; one of a wrong length stays as it was
-unfoldable pub wiped : List ℕ → List ℕ
-wiped z = elim (eqb (length z) scratchWords) [ true ↦ zeros | false ↦ z ]
-
 -- the script is over: nothing is printed, or `R 9`
 abbrev pub ends : List ℕ → Lent → Stepped
-ends e l = record { after = over; printed = record { reply = e; words = lent (l .store) (wiped (l .scratch)) } }
+ends e l = record { after = over; printed = record { reply = e; words = lent (l .store) (l .set) (l .stops) (wiped (l .scratch)) } }
 
 unfoldable pub readingStep : Lent → Reading → Stepped
 readingStep l (found r j) = record { after = goes j; printed = callOf l r }
@@ -62,7 +59,7 @@ runFrom (suc k) s i l =
     let t = stepOf s i l in
     elim (t .after) [ goes j ↦ onto (t .printed .reply) (runFrom k s j (t .printed .words)) | over ↦ t .printed ]
 
--- "`trace` reads one script .. over a fresh store". A step takes a byte at least, so that there are enough of them
+-- "`trace` reads one script". A step takes a byte at least, so that there are enough of them
 unfoldable pub runOf : List ℕ → Printed
 runOf s = runFrom (suc (length s)) s 0 fresh
 

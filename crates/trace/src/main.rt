@@ -1,4 +1,5 @@
-// Runs the script on standard input over a fresh store: a line a record, then the end line.
+// Runs the script on standard input over a fresh store, an empty full-context set and no stop states: a line a record, then the
+// end line.
 use layout::SCRATCH_WORDS;
 use layout::STORE_WORDS;
 use libc::STDERR_FILENO;
@@ -7,6 +8,8 @@ use libc::STDOUT_FILENO;
 use lines::LINE_BYTES;
 use script::MOST_BYTES;
 use script::Ran;
+use script::SET_WORDS;
+use script::STOP_WORDS;
 ghost use Prim.Native.Nat.{_≤_};
 ghost use lib.ListN.{length};
 ghost use Rattle.replies.specs.Replies.{lent};
@@ -28,16 +31,17 @@ fn write_reply(out: &[u8], wrote: usize) -> bool
 fn run_script(
     bytes: &[u8],
     store: &mut [u32; STORE_WORDS],
+    set: &mut [u32; SET_WORDS],
+    stops: &mut [u32; STOP_WORDS],
     scratch: &mut [u32; SCRATCH_WORDS],
     out: &mut [u8; LINE_BYTES],
 ) -> bool
-    ensures { λ r. ⌜ Traced (now (bytes .entry)) r (lent (now (store .exit)) (now (scratch .exit))) ⌝ }
+    ensures { λ r. ⌜ Traced (now (bytes .entry)) r (lent (now (store .exit)) (now (set .exit)) (now (stops .exit)) (now (scratch .exit))) ⌝ }
 {
-    store::fresh(store);
-    words::clear(scratch);
+    script::start(store, set, stops, scratch);
     let mut at = 0;
     loop {
-        let ran = script::run_step(bytes, at, store, scratch, out);
+        let ran = script::run_step(bytes, at, store, set, stops, scratch, out);
         match ran {
             Ran::Next(wrote, next) => {
                 if !write_reply(out, wrote) {
@@ -71,10 +75,19 @@ fn was_read() -> bool {
 fn main() {
     let mut input = [0u8; MOST_BYTES + 1];
     let mut store = [0u32; STORE_WORDS];
+    let mut set = [0u32; SET_WORDS];
+    let mut stops = [0u32; STOP_WORDS];
     let mut scratch = [0u32; SCRATCH_WORDS];
     let mut out = [0u8; LINE_BYTES];
     let n = io::read_full(STDIN_FILENO, &mut input);
     if was_read() {
-        run_script(&input[..n], &mut store, &mut scratch, &mut out);
+        run_script(
+            &input[..n],
+            &mut store,
+            &mut set,
+            &mut stops,
+            &mut scratch,
+            &mut out,
+        );
     }
 }

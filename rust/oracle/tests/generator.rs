@@ -2,7 +2,7 @@
 
 use std::collections::BTreeMap;
 
-use oracle::generate::{self, FAMILIES, alphabet};
+use oracle::generate::{self, FAMILIES, alphabet, malformed};
 use oracle::prediction::driver::Machine;
 use oracle::record::{Kinds, Record, split};
 use oracle::run::run;
@@ -127,5 +127,17 @@ fn without_sets_no_other_kind_is_run() {
 #[test]
 fn words_are_counted() {
     assert_eq!(alphabet::words(3, Kinds::Store).len(), 1 + 18 + 18 * 18 + 18 * 18 * 18);
-    assert_eq!(alphabet::words(2, Kinds::All).len(), 1 + 2 * (18 + 18 * 18));
+    let faults = malformed::each_fault().len();
+    assert_eq!(alphabet::words(2, Kinds::All).len(), 1 + 2 * (18 + 18 * 18) + faults);
+}
+
+/// All but the three lists of stop states are malformed, and 65 of these are too many.
+#[test]
+fn each_fault_is_one() {
+    let faults = malformed::each_fault();
+    let lines: Vec<Vec<u8>> = faults.iter().map(|script| run(script, Kinds::All).lines).collect();
+    assert_eq!(lines.iter().filter(|&lines| lines == b"C 1\nR 9\nT 2 0\n").count(), faults.len() - 3);
+    for reply in ["S 0", "S 64", "R 10"] {
+        assert!(lines.contains(&format!("C 1\n{reply}\nK\nT 2 0\n").into_bytes()), "{reply}");
+    }
 }

@@ -2,15 +2,16 @@
 use mathlib.Core.Path.{_≡_, refl}
 use mathlib.Core.Bool.{Bool, true, false}
 use mathlib.Core.List.{List}
-use Prim.Native.Nat.{ℕ, _+_, _<_, _≤_}
+use Prim.Native.Nat.{ℕ, _+_, _-_, _/_, _<_, _≤_}
 use native.Mathlib.Omega.{arith}
 use lib.Dec.{eqb, leb}
 use lib.ListN.{length, getD}
 use borrow.Author.Tests.{lt-ltb, le-ltb, leb-true, le-leb, lt-leb, ne-eqb}
-use Rattle.format.specs.Bytes.{u16At, u32At, u64At}
+use Rattle.format.specs.Bytes.{u16At, u32At, u64At, wordsAt}
 use Rattle.format.specs.Payloads.{payloadOf, accepts}
 use Rattle.cases.specs.Numbers.{below?}
-use Rattle.format.specs.Format.{Record, singleton, merge, show, Reading, found, ended, malformed, ifWell, ifKind, payloadAt, recordAt, readAt}
+use Rattle.format.specs.Format.{Record, singleton, merge, newSet, add, stops, verdict, show, close, Reading, found, ended, malformed}
+use Rattle.format.specs.Format.{ifWell, configFrom, ifKind, payloadAt, recordAt, readAt}
 
 -- ---- a payload, by its kind
 
@@ -19,21 +20,48 @@ module _ (s : List ℕ) (p e : ℕ) where
   unfolding payloadAt
   payload-singleton = refl
 
-  pub payload-show : payloadAt s 7 p e ≡ found (show (u32At s p)) e
+  pub merge-mode : 1 < getD s (p + 8) 0 → payloadAt s 2 p e ≡ malformed
   unfolding payloadAt
-  payload-show = refl
-
-  pub payload-mode : 1 < getD s (p + 8) 0 → payloadAt s 2 p e ≡ malformed
-  unfolding payloadAt
-  payload-mode h = rw (lt-leb (getD s (p + 8) 0) 1 h)
+  merge-mode h = rw (lt-leb (getD s (p + 8) 0) 1 h)
 
   pub payload-merge : getD s (p + 8) 0 ≤ 1 → payloadAt s 2 p e ≡ found (merge (u32At s p) (u32At s (p + 4)) (eqb (getD s (p + 8) 0) 1)) e
   unfolding payloadAt
   payload-merge h = rw (le-leb (getD s (p + 8) 0) 1 h)
 
-  pub payload-other : (k : ℕ) → (k ≡ 1 → ⊥) → (k ≡ 2 → ⊥) → (k ≡ 7 → ⊥) → payloadAt s k p e ≡ malformed
+  pub new-mode : 1 < getD s p 0 → payloadAt s 3 p e ≡ malformed
   unfolding payloadAt
-  payload-other k a b c = rw (ne-eqb k 1 a, ne-eqb k 2 b, ne-eqb k 7 c)
+  new-mode h = rw (lt-leb (getD s p 0) 1 h)
+
+  pub payload-new : getD s p 0 ≤ 1 → payloadAt s 3 p e ≡ found (newSet (eqb (getD s p 0) 1)) e
+  unfolding payloadAt
+  payload-new h = rw (le-leb (getD s p 0) 1 h)
+
+  pub payload-add : payloadAt s 4 p e ≡ found (add (configFrom s p)) e
+  unfolding payloadAt
+  payload-add = refl
+
+  pub payload-stops : payloadAt s 5 p e ≡ found (stops (wordsAt s p ((e - p) / 4))) e
+  unfolding payloadAt
+  payload-stops = refl
+
+  pub payload-verdict : payloadAt s 6 p e ≡ found verdict e
+  unfolding payloadAt
+  payload-verdict = refl
+
+  pub payload-show : payloadAt s 7 p e ≡ found (show (u32At s p)) e
+  unfolding payloadAt
+  payload-show = refl
+
+  pub payload-close : payloadAt s 8 p e ≡ found close e
+  unfolding payloadAt
+  payload-close = refl
+
+-- none of the kinds
+pub payload-other : (s : List ℕ) (k p e : ℕ) → (k ≡ 1 → ⊥) → (k ≡ 2 → ⊥) → (k ≡ 7 → ⊥) → (k ≡ 3 → ⊥) → (k ≡ 4 → ⊥) → (k ≡ 5 → ⊥)
+    → (k ≡ 6 → ⊥) → (k ≡ 8 → ⊥) → payloadAt s k p e ≡ malformed
+unfolding payloadAt
+payload-other s k p e a b c d f g h i =
+    rw (ne-eqb k 1 a, ne-eqb k 2 b, ne-eqb k 3 d, ne-eqb k 4 f, ne-eqb k 5 g, ne-eqb k 6 h, ne-eqb k 7 c, ne-eqb k 8 i)
 
 -- ---- a record, by its header
 
@@ -86,8 +114,13 @@ unfolding payloadAt
 payload-onward P s k p e h =
     onward-kind P (eqb k 1) _ _ h
     (onward-kind P (eqb k 2) _ _ (onward-well P (leb (getD s (p + 8) 0) 1) _ (λ _. h))
+    (onward-kind P (eqb k 3) _ _ (onward-well P (leb (getD s p 0) 1) _ (λ _. h))
+    (onward-kind P (eqb k 4) _ _ h
+    (onward-kind P (eqb k 5) _ _ h
+    (onward-kind P (eqb k 6) _ _ h
     (onward-kind P (eqb k 7) _ _ h
-    tt))
+    (onward-kind P (eqb k 8) _ _ h
+    tt)))))))
 
 -- past the place i, and within the script s
 abbrev Past : List ℕ → ℕ → ℕ → Type 0

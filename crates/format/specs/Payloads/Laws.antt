@@ -10,18 +10,17 @@ use lib.ListN.{length, getD, List·getD-eq-default}
 use borrow.Author.Tests.{eqb-true, ltb-true, lt-ltb, le-ltb, ne-eqb}
 use Rattle.cases.specs.Bools.{and-left, and-right}
 use Rattle.cases.specs.Numbers.{below?}
-use Rattle.format.specs.Payloads.{Payload, exactly, fours, later, none, payloads, payloadOf, accepts}
-use Rattle.format.specs.Table.{variable, notServed, entry, entryAccepts}
+use Rattle.format.specs.Payloads.{Payload, exactly, fours, none, payloads, payloadOf, accepts}
+use Rattle.format.specs.Table.{variable, noKind, entry, entryAccepts}
 
 -- the code's table
 unfoldable pub table : List ℕ
-table = notServed ∷ 12 ∷ 9 ∷ (notServed + 1) ∷ (notServed + 24) ∷ (notServed + variable) ∷ notServed ∷ 4 ∷ notServed ∷ []
+table = noKind ∷ 12 ∷ 9 ∷ 1 ∷ 24 ∷ variable ∷ 0 ∷ 4 ∷ 0 ∷ []
 
 -- a length is no mark
 unfoldable small : Payload → Bool
 small (exactly n) = ltb n variable
 small fours = true
-small (later p) = true
 small none = true
 
 -- the two lists agree place by place, and no length is a mark
@@ -54,9 +53,9 @@ unfolding payloadOf table
 table-small k h = agree-at table payloads whole k h .1
 
 -- past the table there is no kind
-pub no-kind : (k : ℕ) → 8 < k → payloadOf k ≡ none
+pub unknown-kind : (k : ℕ) → 8 < k → payloadOf k ≡ none
 unfolding payloadOf payloads
-no-kind k h = List·getD-eq-default payloads none h
+unknown-kind k h = List·getD-eq-default payloads none h
 
 -- ---- an entry says what its payload says
 
@@ -65,9 +64,8 @@ module _ (n : ℕ) where
   unfolding accepts entryAccepts entry small
   entry-says (exactly m) t =
       let h : m < variable = ltb-true m variable t in
-      sym (rw (lt-ltb m notServed (omega arith), entryAccepts) (rw (ne-eqb m variable (λ e. omega arith))))
+      sym (rw (lt-ltb m noKind (omega arith), entryAccepts) (rw (ne-eqb m variable (λ e. omega arith))))
   entry-says fours t = refl
-  entry-says (later p) t = sym (rw (le-ltb (notServed + entry p) notServed (omega arith), entryAccepts))
   entry-says none t = refl
 
   kind-says : (k : ℕ) → accepts (payloadOf k) n ≡ entryAccepts (entry (payloadOf k)) n
@@ -75,24 +73,24 @@ module _ (n : ℕ) where
   kind-says k =
       below? k 9
       (λ h. entry-says (payloadOf k) (table-small k h))
-      (λ h. entry-says (payloadOf k) (ap small (no-kind k h)))
+      (λ h. entry-says (payloadOf k) (ap small (unknown-kind k h)))
 
   -- the three ways out of the code that looks a kind up
   module _ (k e : ℕ) (q : e ≡ entry (payloadOf k)) where
-    pub kind-unknown : notServed ≤ e → accepts (payloadOf k) n ≡ false
+    pub kind-unknown : noKind ≤ e → accepts (payloadOf k) n ≡ false
     unfolding entryAccepts
-    kind-unknown h = kind-says k ∙ ap (λ (x : ℕ). entryAccepts x n) (sym q) ∙ rw (le-ltb e notServed h, entryAccepts)
+    kind-unknown h = kind-says k ∙ ap (λ (x : ℕ). entryAccepts x n) (sym q) ∙ rw (le-ltb e noKind h, entryAccepts)
 
     pub kind-variable : e ≡ variable → accepts (payloadOf k) n ≡ eqb (n % 4) 0
     unfolding entryAccepts
     kind-variable h = kind-says k ∙ ap (λ (x : ℕ). entryAccepts x n) (sym q ∙ h)
 
-    pub kind-fixed : e < notServed → (e ≡ variable → ⊥) → accepts (payloadOf k) n ≡ eqb n e
+    pub kind-fixed : e < noKind → (e ≡ variable → ⊥) → accepts (payloadOf k) n ≡ eqb n e
     unfolding entryAccepts
     kind-fixed h v =
-        kind-says k ∙ ap (λ (x : ℕ). entryAccepts x n) (sym q) ∙ rw (lt-ltb e notServed h, entryAccepts) (rw (ne-eqb e variable v))
+        kind-says k ∙ ap (λ (x : ℕ). entryAccepts x n) (sym q) ∙ rw (lt-ltb e noKind h, entryAccepts) (rw (ne-eqb e variable v))
 
--- ---- the lengths of the kinds that are served
+-- ---- the lengths, kind by kind
 
 pub payload-1 : payloadOf 1 ≡ exactly 12
 unfolding payloadOf payloads
@@ -102,6 +100,18 @@ pub payload-2 : payloadOf 2 ≡ exactly 9
 unfolding payloadOf payloads
 payload-2 = refl
 
+pub payload-3 : payloadOf 3 ≡ exactly 1
+unfolding payloadOf payloads
+payload-3 = refl
+
+pub payload-4 : payloadOf 4 ≡ exactly 24
+unfolding payloadOf payloads
+payload-4 = refl
+
 pub payload-7 : payloadOf 7 ≡ exactly 4
 unfolding payloadOf payloads
 payload-7 = refl
+
+pub payload-5 : payloadOf 5 ≡ fours
+unfolding payloadOf payloads
+payload-5 = refl

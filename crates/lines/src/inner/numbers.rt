@@ -1,7 +1,8 @@
-// The line of one number: a context, a refusal.
+// The line of one number, as a context or a refusal, and of none.
 use crate::inner::digits::put_byte;
 use crate::inner::digits::put_spaced;
 ghost use mathlib.Core.Path.{_≡_};
+ghost use mathlib.Core.List.{[], _∷_};
 ghost use lib.ListN.{length};
 ghost use Rattle.lines.specs.Laid.{Wrote};
 ghost use Rattle.lines.specs.Lines.{lineBytes, numberLine};
@@ -13,5 +14,14 @@ pub fn lay_number(out: &mut [u8], letter: u8, n: u32) -> usize
 {
     let at = put_byte(out, 0, letter);
     let at = put_spaced(out, at, n);
+    put_byte(out, at, b'\n')
+}
+
+// Lays a letter and a line end.
+pub fn lay_letter(out: &mut [u8], letter: u8) -> usize
+    requires { ⌜ length (now out) ≡ lineBytes ⌝ }
+    ensures { λ r. ⌜ Wrote (now (out .entry)) 0 (letter ∷ 10 ∷ []) r (now (out .exit)) ⌝ }
+{
+    let at = put_byte(out, 0, letter);
     put_byte(out, at, b'\n')
 }

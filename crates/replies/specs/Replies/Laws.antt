@@ -1,28 +1,56 @@
 -- What a call leaves, from what its parts leave. Nothing here has to be believed.
-use mathlib.Core.Path.{_≡_, refl}
+use mathlib.Core.Path.{_≡_, refl, sym, ap, _∙_}
 use mathlib.Core.List.{List, []}
 use Prim.Native.Nat.{ℕ}
+use lib.ListN.{length, replicate}
+use borrow.Author.Tests.{eq-eqb, ne-eqb}
 use Rattle.words.specs.Refusals.{number}
 use Rattle.words.specs.declared.names.ContextId.{ContextId}
 use Rattle.words.specs.declared.refusals.Refusal.{Refusal}
 use Rattle.arena.specs.Store.{nodeAt}
+use Rattle.layout.specs.Layout.{scratchWords}
 use Rattle.layout.specs.Decode.{storeOf}
-use Rattle.store.specs.Calls.{shown, Left, leaves}
+use Rattle.store.specs.Admit.{cleared}
+use Rattle.store.specs.Calls.{shown, Left, leaves, asked}
 use Rattle.store.specs.Asks.{Asks}
 use Rattle.store.specs.declared.inner.admit.Admitted.{Admitted}
 use Rattle.store.specs.declared.inner.admit.Admitted.the-variants.{Ready as ready, Refused as notReady}
 use Rattle.interning.specs.Replies.{numbered}
 use Rattle.interning.specs.declared.single.Numbered.{Numbered}
 use Rattle.interning.specs.declared.single.Numbered.the-variants.{Number, Refused as notNumbered}
-use Rattle.format.specs.Format.{show}
 use Rattle.lines.specs.Laid.{Wrote}
 use Rattle.lines.specs.Lines.{numberLine, contextLine, refusalLine, entriesLine}
-use Rattle.replies.specs.Replies.{Lent, lent, lineOf, Printed, printed, callOf}
+use Rattle.replies.specs.Replies.{Lent, lent, wiped, lineOf, Printed, onStore}
 
 -- the reply x is laid in the buffer b, and the words are x's
 pub record Answered (b : List ℕ) (x : Printed) (r : ℕ) (u : List ℕ) (l : Lent) : Type 0 where
   pub wrote : Wrote b 0 (x .reply) r u
   pub words : l ≡ x .words
+
+-- ---- the scratch
+
+module _ (z : List ℕ) where
+  pub wiped-right : length z ≡ scratchWords → wiped z ≡ replicate (length z) 0
+  unfolding wiped
+  wiped-right l = (rw (eq-eqb (length z) scratchWords l, wiped)) ∙ sym (cleared z l)
+
+  pub wiped-wrong : (length z ≡ scratchWords → ⊥) → wiped z ≡ z
+  unfolding wiped
+  wiped-wrong n = rw (ne-eqb (length z) scratchWords n, wiped)
+
+-- ---- a call on contexts, which leaves x; `shown` prints e
+
+pub record Replied (b e : List ℕ) (x : Left) (r : ℕ) (u w z : List ℕ) : Type 0 where
+  pub wrote : Wrote b 0 (lineOf e (x .reply)) r u
+  pub store : w ≡ x .store
+  pub scratch : z ≡ x .scratch
+
+pub on-store : (b e : List ℕ) (x : Left) (r : ℕ) (u w v t z : List ℕ) (l : Lent) → Replied b e x r u w z → v ≡ l .set → t ≡ l .stops
+    → Answered b (onStore l e x) r u (lent w v t z)
+on-store b e x r u w v t z l p f g = record {
+  wrote = p .wrote;
+  words = rw (p .store, p .scratch, f, g);
+}
 
 -- ---- a call that may make a context
 
@@ -35,18 +63,19 @@ module _ (b : List ℕ) (j : ℕ) (u : List ℕ) (a : Numbered) where
   unfolding lineOf refusalLine
   refusal-line f n e q v = rw e (rw q at v)
 
-pub answered-call : (b : List ℕ) (x : Left) (a : Numbered) (r : ℕ) (u w z : List ℕ) → leaves (numbered a) w z ≡ x
-    → Wrote b 0 (lineOf [] (numbered a)) r u → Answered b (printed [] x) r u (lent w z)
-answered-call b x a r u w z e v = rw (← e) (record { wrote = v; words = refl })
+pub replied-call : (b : List ℕ) (x : Left) (a : Numbered) (r : ℕ) (u w z : List ℕ) → leaves (numbered a) w z ≡ x
+    → Wrote b 0 (lineOf [] (numbered a)) r u → Replied b [] x r u w z
+replied-call b x a r u w z e v = rw (← e) (record { wrote = v; store = refl; scratch = refl })
 
 -- ---- the entries of a context
 
 module _ {w z : List ℕ} {c : ℕ} {a : Admitted} {y : List ℕ} (v : Asks w z c a y) (b : List ℕ) (r : ℕ) (u : List ℕ) where
   pub show-refused : (f : Refusal) → a ≡ notReady f → (n : ℕ) → n ≡ number f → Wrote b 0 (numberLine 82 n) r u
-      → Answered b (callOf (lent w z) (show c)) r u (lent w y)
-  unfolding callOf lineOf refusalLine
-  show-refused f e n q p = rw (← v .refuses f e shown) (record { wrote = rw q at p; words = refl })
+      → Replied b (entriesLine (nodeAt (storeOf w) c)) (asked w z c shown) r u w y
+  unfolding lineOf refusalLine
+  show-refused f e n q p = rw (← v .refuses f e shown) (record { wrote = rw q at p; store = refl; scratch = refl })
 
-  pub show-done : a ≡ ready → Wrote b 0 (entriesLine (nodeAt (storeOf w) c)) r u → Answered b (callOf (lent w z) (show c)) r u (lent w y)
-  unfolding callOf lineOf
-  show-done e p = rw (← v .replies e shown) (record { wrote = p; words = refl })
+  pub show-done : a ≡ ready → Wrote b 0 (entriesLine (nodeAt (storeOf w) c)) r u
+      → Replied b (entriesLine (nodeAt (storeOf w) c)) (asked w z c shown) r u w y
+  unfolding lineOf
+  show-done e p = rw (← v .replies e shown) (record { wrote = p; store = refl; scratch = refl })

@@ -1,21 +1,34 @@
-// A record's call, and its reply laid out.
-use format::Record;
+// The calls on contexts, each with its reply laid out.
 use interning::Numbered;
+use layout::SCRATCH_WORDS;
 use lines::inner::entries::lay_entries;
 use lines::inner::numbers::lay_number;
 use store::inner::admit::Admitted;
 use store::inner::ask::ask;
 use words::ContextId;
+use words::ReturnState;
 ghost use mathlib.Core.Path.{_≡_};
 ghost use mathlib.Core.List.{[]};
 ghost use lib.ListN.{length};
+ghost use Rattle.arena.specs.Store.{nodeAt};
+ghost use Rattle.layout.specs.Decode.{storeOf};
+ghost use Rattle.store.specs.Calls.{asked, shown};
 ghost use Rattle.interning.specs.Replies.{numbered};
-ghost use Rattle.format.specs.Answers.{callIn};
-ghost use Rattle.format.specs.Format.{show as showing};
+ghost use Rattle.interning.specs.SingletonCall.{singletonCall};
+ghost use Rattle.contexts.specs.MergeCall.{mergeCall};
 ghost use Rattle.lines.specs.Laid.{Wrote};
-ghost use Rattle.lines.specs.Lines.{lineBytes};
-ghost use Rattle.replies.specs.Replies.Laws.{Answered};
-ghost use Rattle.replies.specs.Replies.{callOf, lent, lineOf};
+ghost use Rattle.lines.specs.Lines.{entriesLine, lineBytes};
+ghost use Rattle.replies.specs.Replies.Laws.{Replied};
+ghost use Rattle.replies.specs.Replies.{lineOf, wiped};
+
+// Leaves the scratch as what does not work in it does: 0, but one of a wrong length stays.
+pub fn wipe(scratch: &mut [u32])
+    ensures { λ _. ⌜ now (scratch .exit) ≡ wiped (now (scratch .entry)) ⌝ }
+{
+    if scratch.len() == SCRATCH_WORDS {
+        words::clear(scratch);
+    }
+}
 
 // Lays the line of a call that may make a context.
 fn lay_numbered(out: &mut [u8], answer: Numbered) -> usize
@@ -28,34 +41,49 @@ fn lay_numbered(out: &mut [u8], answer: Numbered) -> usize
     }
 }
 
-// Lays out the entries of a context, or the refusal.
-fn show(store: &[u32], scratch: &mut [u32], context: ContextId, out: &mut [u8]) -> usize
+// Places a state over a parent.
+pub fn singleton(
+    store: &mut [u32],
+    scratch: &mut [u32],
+    parent: ContextId,
+    state: ReturnState,
+    out: &mut [u8],
+) -> usize
     requires { ⌜ length (now out) ≡ lineBytes ⌝ }
-    ensures { λ r. ⌜ Answered (now (out .entry)) (callOf (lent (now (store .entry)) (now (scratch .entry))) (showing (context .0)))
-        r (now (out .exit)) (lent (now (store .entry)) (now (scratch .exit))) ⌝ }
+    ensures { λ r. ⌜ Replied (now (out .entry)) [] (singletonCall (now (store .entry)) (now (scratch .entry)) (parent .0) (state .0))
+        r (now (out .exit)) (now (store .exit)) (now (scratch .exit)) ⌝ }
+{
+    let answer = interning::singleton(store, scratch, parent, state);
+    lay_numbered(out, answer)
+}
+
+// Merges two contexts.
+pub fn merge(
+    store: &mut [u32],
+    scratch: &mut [u32],
+    left: ContextId,
+    right: ContextId,
+    wildcard: bool,
+    out: &mut [u8],
+) -> usize
+    requires { ⌜ length (now out) ≡ lineBytes ⌝ }
+    ensures { λ r. ⌜ Replied (now (out .entry)) [] (mergeCall (now (store .entry)) (now (scratch .entry)) (left .0) (right .0) wildcard)
+        r (now (out .exit)) (now (store .exit)) (now (scratch .exit)) ⌝ }
+{
+    let answer = contexts::merge(store, scratch, left, right, wildcard);
+    lay_numbered(out, answer)
+}
+
+// Lays out the entries of a context, or the refusal.
+pub fn show(store: &[u32], scratch: &mut [u32], context: ContextId, out: &mut [u8]) -> usize
+    requires { ⌜ length (now out) ≡ lineBytes ⌝ }
+    ensures { λ r. ⌜ Replied (now (out .entry)) (entriesLine (nodeAt (storeOf (now (store .entry))) (context .0)))
+        (asked (now (store .entry)) (now (scratch .entry)) (context .0) shown)
+        r (now (out .exit)) (now (store .entry)) (now (scratch .exit)) ⌝ }
 {
     let asked = ask(store, scratch, context);
     if let Admitted::Refused(refusal) = asked {
         return lay_number(out, b'R', words::refusal_number(refusal));
     }
     lay_entries(out, store, context.0 as usize)
-}
-
-// Runs a record's call and lays out its reply.
-pub fn run_record(call: Record, store: &mut [u32], scratch: &mut [u32], out: &mut [u8]) -> usize
-    requires { ⌜ length (now out) ≡ lineBytes ⌝ }
-    ensures { λ r. ⌜ Answered (now (out .entry)) (callOf (lent (now (store .entry)) (now (scratch .entry))) (callIn call))
-        r (now (out .exit)) (lent (now (store .exit)) (now (scratch .exit))) ⌝ }
-{
-    match call {
-        Record::Singleton(parent, state) => {
-            let answer = interning::singleton(store, scratch, parent, state);
-            lay_numbered(out, answer)
-        }
-        Record::Merge(left, right, wildcard) => {
-            let answer = contexts::merge(store, scratch, left, right, wildcard);
-            lay_numbered(out, answer)
-        }
-        Record::Show(context) => show(store, scratch, context, out),
-    }
 }

@@ -3,17 +3,15 @@ use mathlib.Core.Path.{_≡_, refl, sym, ap, _∙_}
 use mathlib.Core.List.{List, []}
 use Prim.Native.Nat.{ℕ, _<_, _≤_}
 use native.Mathlib.Omega.{arith}
-use lib.ListN.{length, replicate}
-use borrow.Author.Tests.{eq-eqb, ne-eqb, lt-ltb, le-ltb}
-use Rattle.layout.specs.Layout.{scratchWords}
-use Rattle.store.specs.Admit.{cleared}
+use lib.ListN.{length}
+use borrow.Author.Tests.{lt-ltb, le-ltb}
 use Rattle.format.specs.Format.{Reading, found, ended, malformed, readAt, Record as Call}
 use Rattle.lines.specs.Laid.{laid, Wrote}
 use Rattle.lines.specs.Lines.{refusalLine}
-use Rattle.replies.specs.Replies.{Lent, lent, Printed, callOf}
+use Rattle.replies.specs.Replies.{Lent, lent, Printed, wiped, callOf}
 use Rattle.replies.specs.Replies.Laws.{Answered}
 use Rattle.script.specs.declared.run.Ran.the-variants.{Next, Over}
-use Rattle.script.specs.Steps.{mostBytes, wiped, ends, readingStep, stepOf, Stepped, goes}
+use Rattle.script.specs.Steps.{mostBytes, ends, readingStep, stepOf, Stepped, goes}
 use Rattle.script.specs.Steps.Laws.{step-forward}
 use Rattle.script.specs.Answers.{Behind, behind, laidOut}
 
@@ -41,25 +39,16 @@ module _ (s : List ℕ) (i : ℕ) (l : Lent) where
     unfolding readingStep
     step-found x j e = step-read h (found x j) e
 
--- ---- the end of a script
-
-module _ (z : List ℕ) where
-  pub wiped-right : length z ≡ scratchWords → wiped z ≡ replicate (length z) 0
-  unfolding wiped
-  wiped-right l = (rw (eq-eqb (length z) scratchWords l, wiped)) ∙ sym (cleared z l)
-
-  pub wiped-wrong : (length z ≡ scratchWords → ⊥) → wiped z ≡ z
-  unfolding wiped
-  wiped-wrong n = rw (ne-eqb (length z) scratchWords n, wiped)
-
 -- ---- what is laid out, from what was written
 
 module _ (b : List ℕ) (n : ℕ) (u : List ℕ) (t : Stepped) where
-  pub ran-over : (e w z y : List ℕ) → Wrote b 0 e n u → y ≡ wiped z → t ≡ ends e (lent w z) → behind (Over n) u (lent w y) ≡ laidOut b t
-  ran-over e w z y v p q =
-      rw q (ap (λ (m : ℕ). behind (Over m) u (lent w y)) (v .after ∙ omega arith)
-      ∙ ap (λ (x : List ℕ). behind (Over (length e)) x (lent w y)) (v .bytes)
-      ∙ ap (λ (x : List ℕ). behind (Over (length e)) (laid b 0 e) (lent w x)) p)
+  pub ran-over : (e : List ℕ) (l : Lent) (y : List ℕ) → Wrote b 0 e n u → y ≡ wiped (l .scratch) → t ≡ ends e l
+      → behind (Over n) u (lent (l .store) (l .set) (l .stops) y) ≡ laidOut b t
+  ran-over e l y v p q =
+      let with : List ℕ → Lent = λ x. lent (l .store) (l .set) (l .stops) x in
+      rw q (ap (λ (m : ℕ). behind (Over m) u (with y)) (v .after ∙ omega arith)
+      ∙ ap (λ (x : List ℕ). behind (Over (length e)) x (with y)) (v .bytes)
+      ∙ ap (λ (x : List ℕ). behind (Over (length e)) (laid b 0 e) (with x)) p)
 
   pub ran-next : (l : Lent) (j : ℕ) (x : Printed) → Answered b x n u l → t ≡ record { after = goes j; printed = x } → behind (Next n j) u l ≡ laidOut b t
   ran-next l j x v q =

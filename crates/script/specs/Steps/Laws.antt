@@ -5,15 +5,14 @@ use mathlib.Core.List.{List}
 use Prim.Native.Nat.{ℕ, zero, suc, _-_, _<_, _≤_}
 use native.Mathlib.Omega.{arith}
 use lib.ListN.{length}
-use borrow.Author.Tests.{eq-eqb, lt-ltb, le-ltb}
-use Rattle.layout.specs.Layout.{storeWords, scratchWords}
+use borrow.Author.Tests.{lt-ltb, le-ltb}
 use Rattle.cases.specs.Numbers.{below?}
 use Rattle.store.specs.Calls.{zeros}
 use Rattle.format.specs.Format.{Reading, found, ended, malformed, readAt}
 use Rattle.format.specs.Format.Laws.{read-forward}
 use Rattle.replies.specs.Replies.{Lent, Printed}
-use Rattle.replies.specs.Zeros.{call-zero}
-use Rattle.script.specs.Steps.{mostBytes, After, goes, over, wiped, readingStep, stepOf, onto, runFrom}
+use Rattle.replies.specs.Zeros.{Sized, wiped-zero, call-zero}
+use Rattle.script.specs.Steps.{mostBytes, After, goes, over, readingStep, stepOf, onto, runFrom}
 
 never : {X : Type 0} → _≡_ {A = ℕ} 0 1 → X
 never e = absurd (omega arith)
@@ -40,22 +39,18 @@ module _ (s : List ℕ) (i : ℕ) (l : Lent) where
 
   -- ---- "Scratch: .. all 0 on return"; of the right length
 
-  module _ (lw : length (l .store) ≡ storeWords) (lz : length (l .scratch) ≡ scratchWords) where
-    wiped-zero : wiped (l .scratch) ≡ zeros
-    unfolding wiped
-    wiped-zero = rw (eq-eqb (length (l .scratch)) scratchWords lz, wiped)
-
+  module _ (k : Sized l) where
     reading-zero : (r : Reading) → readingStep l r .printed .words .scratch ≡ zeros
     unfolding readingStep
-    reading-zero (found x k) = call-zero l x lw lz
-    reading-zero ended = wiped-zero
-    reading-zero malformed = wiped-zero
+    reading-zero (found x j) = call-zero l k x
+    reading-zero ended = wiped-zero (l .scratch) (k .scratch)
+    reading-zero malformed = wiped-zero (l .scratch) (k .scratch)
 
     pub step-zero : stepOf s i l .printed .words .scratch ≡ zeros
     unfolding stepOf
     step-zero =
         below? mostBytes (length s)
-        (λ h. rw (lt-ltb mostBytes (length s) h, stepOf) wiped-zero)
+        (λ h. rw (lt-ltb mostBytes (length s) h, stepOf) (wiped-zero (l .scratch) (k .scratch)))
         (λ h. rw (le-ltb mostBytes (length s) h, stepOf) (reading-zero (readAt s i)))
 
   -- ---- one step of a run

@@ -1,5 +1,6 @@
 //! Every word of up to a few records over a small alphabet.
 
+use crate::generate::malformed::each_fault;
 use crate::record::Kinds;
 use crate::text;
 
@@ -47,12 +48,13 @@ const SETS: &[&str] = &[
     "hex 01 00 03 00 02",
 ];
 
-/// Scripts of all words of up to `records` records, shortest first.
+/// Scripts of all words of up to `records` records, and with sets those of one fault each, shortest first.
 pub fn words(records: usize, kinds: Kinds) -> Vec<Vec<u8>> {
     let mut scripts = words_over(STORE, records);
     if kinds == Kinds::All {
         // The empty word is there already.
         scripts.extend(words_over(SETS, records).into_iter().skip(1));
+        scripts.extend(each_fault());
         scripts.sort_by_key(Vec::len);
     }
     scripts

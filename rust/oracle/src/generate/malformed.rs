@@ -32,8 +32,7 @@ pub fn malformed(b: &mut Builder) {
 
 fn bad_record(b: &mut Builder) -> Vec<u8> {
     let record = b.rng.pick(&[0, 1, 2, 3, 4, 5, 6, 7]);
-    let mut bytes = Vec::new();
-    one_of_each()[record].encode(&mut bytes);
+    let mut bytes = encoded(&one_of_each()[record]);
     match b.rng.below(6) {
         // Cut short, in the header or in the payload; then only the end of the script makes it so.
         0 => bytes.truncate(b.rng.between(1, bytes.len() - 1)),
@@ -66,6 +65,57 @@ fn wrong_length(b: &mut Builder, bytes: &mut Vec<u8>) {
     let length = b.rng.pick(&[0, 1, 2, 3, 4, 5, 8, 9, 10, 11, 12, 13, 16, 23, 24, 25, 300]);
     bytes.resize(HEADER_BYTES + length, 0);
     bytes[..2].copy_from_slice(&(length as u16).to_le_bytes());
+}
+
+/// Kinds with payload lengths at the borders: no such kind, a wrong length, and 0, 64 and 65 stop states.
+const BORDERS: [(u16, usize); 19] = [
+    (0, 0),
+    (9, 0),
+    (1, 11),
+    (1, 13),
+    (2, 8),
+    (2, 10),
+    (3, 0),
+    (3, 2),
+    (4, 23),
+    (4, 25),
+    (4, 28),
+    (5, 3),
+    (5, 0),
+    (5, 4 * 64),
+    (5, 4 * 65),
+    (6, 1),
+    (7, 3),
+    (7, 5),
+    (8, 1),
+];
+
+/// Each fault by itself, behind a good record: every record cut at every byte; and, with a good record
+/// behind it too, the borders and a new set of mode 2.
+pub fn each_fault() -> Vec<Vec<u8>> {
+    let [good, .., last] = one_of_each().map(|record| encoded(&record));
+    let mut scripts = Vec::new();
+    for record in one_of_each() {
+        let bytes = encoded(&record);
+        scripts.extend((1..bytes.len()).map(|end| [&good, &bytes[..end]].concat()));
+    }
+    let mut records: Vec<Vec<u8>> = BORDERS.iter().map(|&(kind, length)| zeros(kind, length)).collect();
+    records.push(vec![1, 0, 3, 0, 2]);
+    scripts.extend(records.iter().map(|bad| [good.as_slice(), bad, &last].concat()));
+    scripts
+}
+
+fn encoded(record: &Record) -> Vec<u8> {
+    let mut bytes = Vec::new();
+    record.encode(&mut bytes);
+    bytes
+}
+
+/// A record of a kind with so many bytes of payload, all 0.
+fn zeros(kind: u16, length: usize) -> Vec<u8> {
+    let mut bytes = [(length as u16).to_le_bytes(), kind.to_le_bytes()].concat();
+    bytes.resize(HEADER_BYTES + length, 0);
+    bytes
 }
 
 /// Inputs of no bytes, of 32,768 and around it, and of far more.

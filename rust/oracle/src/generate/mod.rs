@@ -3,7 +3,7 @@
 pub mod alphabet;
 mod builder;
 mod limits;
-mod malformed;
+pub mod malformed;
 mod rng;
 mod sets;
 mod stores;

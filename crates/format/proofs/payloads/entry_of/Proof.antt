@@ -3,13 +3,13 @@ use borrow.Author.Needs.{needs}
 use native.Mathlib.Omega.{arith}
 use mathlib.Core.Path.{sym, ap}
 use Rattle.format.specs.Table.{entry}
-use Rattle.format.specs.Payloads.Laws.{table, table-entry, no-kind}
+use Rattle.format.specs.Payloads.Laws.{table, table-entry, unknown-kind}
 use Rattle.format.proofs.payloads.entry_of.Statement.{statement}
 use Rattle.format.proofs.payloads.entry_of.Tie as tie
 
 returns : tie.Need-returns
 unfolding entry
-returns c = sym (ap entry (no-kind (c .before .args .kind) (c .if1 .taken)))
+returns c = sym (ap entry (unknown-kind (c .before .args .kind) (c .if1 .taken)))
 
 returns-2 : tie.Need-returns-2
 unfolding table

@@ -9,17 +9,17 @@ use Rattle.format.proofs.records.decode.Tie as tie
 returns : tie.Need-returns
 returns c =
     let args = c .before .before .args in
-    sym (read-end (args .bytes .now) (args .at) (c .if1 .taken))
+    (sym (read-end (args .bytes .now) (args .at) (c .if1 .taken)), tt)
 
 returns-2 : tie.Need-returns-2
 returns-2 c =
     let args = c .before .before .before .args in
-    sym (read-short (args .bytes .now) (args .at) (c .before .if1 .left) (omega arith))
+    (sym (read-short (args .bytes .now) (args .at) (c .before .if1 .left) (omega arith)), tt)
 
 returns-3 : tie.Need-returns-3
 returns-3 c =
     let args = c .before .before .before .before .args in
-    c .read-record .ensures ∙ sym (read-header (args .bytes .now) (args .at) (omega arith))
+    (c .read-record .ensures .0 ∙ sym (read-header (args .bytes .now) (args .at) (omega arith)), c .read-record .ensures .1)
 
 pub decode-spec : {M : Type 1} → statement M
 decode-spec =

@@ -1,9 +1,9 @@
 -- By the length.
 use borrow.Author.Needs.{needs}
 use mathlib.Core.Path.{sym, _∙_}
-use Rattle.script.specs.Answers.Laws.{wiped-right, wiped-wrong}
-use Rattle.script.proofs.run.wipe.Statement.{statement}
-use Rattle.script.proofs.run.wipe.Tie as tie
+use Rattle.replies.specs.Replies.Laws.{wiped-right, wiped-wrong}
+use Rattle.replies.proofs.inner.calls.wipe.Statement.{statement}
+use Rattle.replies.proofs.inner.calls.wipe.Tie as tie
 
 returns : tie.Need-returns
 returns c =
