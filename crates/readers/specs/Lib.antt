@@ -1,4 +1,4 @@
--- Several readers of one store: demand 3's middle sentence. To believe: Calls, Runs, Programs. The theorem: `as-if-alone` of Alone.
+-- Several readers of one store: demand 3's middle sentence. To believe: Calls, Runs. The theorem: `as-if-alone` of Alone.
 -- Beside it `own-as-if-alone` of Alone (others may lack room) and `decided-as-if-alone` of Deciding (each call is chosen by what was seen).
 -- Examples: two readers whose numbers differ, shared and alone, and who see the same.
 pub mod Calls

@@ -1,4 +1,4 @@
--- To believe: readers who choose each call by what they have seen.
+-- Readers who choose each call by what they have seen. Nothing here has to be believed: no promise names it; `decided-as-if-alone` stands beside them.
 use mathlib.Core.List.{List, [], _∷_, _++_}
 use Prim.Native.Nat.{ℕ, suc}
 use lib.Dec.{eqb}

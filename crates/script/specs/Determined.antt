@@ -4,7 +4,7 @@ use mathlib.Core.Path.{_≡_, refl, sym, ap, _∙_}
 use mathlib.Core.Bool.{Bool, true, false}
 use mathlib.Core.List.{List}
 use Prim.Native.Nat.{ℕ}
-use Rattle.store.specs.Check.{Tells}
+use Rattle.recordcheck.specs.Check.{Tells}
 use Rattle.script.specs.declared.run.Ran.{Ran}
 use Rattle.script.specs.declared.run.Ran.the-variants.{Next, Over}
 use Rattle.replies.specs.Replies.{Lent}

@@ -7,7 +7,7 @@ use native.Mathlib.Omega.{arith}
 use native.Mathlib.Numerals.{add-one}
 use lib.ListN.{length, getD, take, drop, length-append, length-take, length-drop}
 use lib.Seq.{take-suc, getD-take, getD-drop, take-add, take-all, take-append-seam, drop-at, length-take-le}
-use Rattle.store.specs.Check.{Tells}
+use Rattle.recordcheck.specs.Check.{Tells}
 use Rattle.lines.specs.Laid.{Wrote}
 use Rattle.lines.specs.Laid.Laws.{take-laid}
 use Rattle.lines.specs.Lines.{endLine}

@@ -12,7 +12,7 @@ ghost use mathlib.Core.Path.{_≡_};
 ghost use mathlib.Core.List.{_++_};
 ghost use Prim.Native.Nat.{_≤_};
 ghost use lib.ListN.{drop, length, take};
-ghost use Rattle.store.specs.Check.{Tells};
+ghost use Rattle.recordcheck.specs.Check.{Tells};
 ghost use Rattle.lines.specs.Lines.{endLine};
 ghost use Rattle.script.specs.Steps.{scriptReplies};
 

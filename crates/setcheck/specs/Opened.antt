@@ -15,7 +15,7 @@ use Rattle.layout.specs.Decode.{storeOf}
 use Rattle.layout.specs.Decode.Laws.{store-length}
 use Rattle.encoding.specs.Decide.{sound}
 use Rattle.index.specs.Grow.{index-frame}
-use Rattle.store.specs.Check.{Ready}
+use Rattle.recordcheck.specs.Check.{Ready}
 use Rattle.store.specs.Calls.{none, Left, zeros, refused as notSet}
 use Rattle.store.specs.Nested.{ifLengths, ifSound, checked}
 use Rattle.store.specs.Admit.{Opened, cleared}

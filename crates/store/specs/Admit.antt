@@ -12,7 +12,7 @@ use Rattle.words.specs.declared.refusals.Refusal.the-variants.{UnknownContext}
 use Rattle.layout.specs.Layout.{storeWords, scratchWords, blank, count}
 use Rattle.layout.specs.Sound.{SoundWords}
 use Rattle.encoding.specs.Decide.Laws.{sound-false, true-sound}
-use Rattle.store.specs.Check.{Ready}
+use Rattle.recordcheck.specs.Check.{Ready}
 use Rattle.store.specs.Calls.{refused, Left, zeros, kept}
 use Rattle.store.specs.Nested.{ifLengths, ifSound, ifKnown, checked}
 use Rattle.store.specs.declared.inner.admit.Admitted.{Admitted}

@@ -1,7 +1,3 @@
-pub mod Check
-pub mod Judge
-pub mod Fresh
-pub mod Judgements
 pub mod Checks
 pub mod Reasons
 pub mod Calls

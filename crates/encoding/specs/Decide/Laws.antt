@@ -3,11 +3,13 @@ use mathlib.Core.Path.{_≡_, refl, sym, ap, subst}
 use mathlib.Core.Bool.{true, false, false≢true}
 use mathlib.Core.List.{List, [], _∷_}
 use Prim.Native.Nat.{ℕ, suc}
+use native.Mathlib.Omega.{arith}
 use lib.Dec.{eqb, ltb, leb}
 use lib.ListN.{length}
 use borrow.Author.Tests.{eqb-true, eq-eqb, ltb-true, lt-ltb, leb-true, le-leb}
 use Rattle.arena.specs.Store.{Node, end, dollar, push, Store, Found, at, nowhere, find}
 use Rattle.arena.specs.Soundness.{Rise, Full, Sound}
+use Rattle.arena.specs.Kinds.{size}
 use Rattle.cases.specs.Bools.{and-left, and-right, both-true, is-false}
 use Rattle.arena.specs.Below.{NodeBelow, StoreBelow}
 use Rattle.layout.specs.Layout.{storeWords, mostContexts, stop}
@@ -19,7 +21,7 @@ use Rattle.encoding.specs.Good.{GoodStore}
 use Rattle.encoding.specs.Written.{words-length}
 use Rattle.encoding.specs.Encoded.{encoded}
 use Rattle.encoding.specs.Decoded.{decoded}
-use Rattle.encoding.specs.Decide.{sameWords, rises, hasEntry, isNowhere, soundStore, nodeBelow, storeBelow, fits, goodStore, sound}
+use Rattle.encoding.specs.Decide.{sameWords, rises, isNowhere, soundStore, fits, goodStore, sound}
 
 -- ---- each test decides what it says
 
@@ -35,31 +37,35 @@ unfolding sameWords
 words-same [] = refl
 words-same (x ∷ w) = both-true (eqb x x) _ (eq-eqb x x refl) (words-same w)
 
-rises-true : (lo c : ℕ) (n : Node) → rises lo c n ≡ true → Rise lo c n
+rises-true : (lo c : ℕ) (n : Node) → rises lo c n ≡ true → Rise lo c n × NodeBelow stop n
 unfolding rises
-rises-true lo c end e = tt
-rises-true lo c dollar e = tt
+rises-true lo c end e = (tt, tt)
+rises-true lo c dollar e = (tt, tt)
 rises-true lo c (push r p n) e =
     let f = and-right (leb lo r) _ e in
-    (leb-true lo r (and-left _ _ e), ltb-true p c (and-left _ _ f), rises-true (suc r) c n (and-right (ltb p c) _ f))
+    let g = and-right (ltb r stop) _ f in
+    let rest = rises-true (suc r) c n (and-right (ltb p c) _ g) in
+    ((leb-true lo r (and-left _ _ e), ltb-true p c (and-left _ _ g), rest .0), (ltb-true r stop (and-left _ _ f), rest .1))
 
-true-rises : (lo c : ℕ) (n : Node) → Rise lo c n → rises lo c n ≡ true
+true-rises : (lo c : ℕ) (n : Node) → Rise lo c n → NodeBelow stop n → rises lo c n ≡ true
 unfolding rises
-true-rises lo c end v = refl
-true-rises lo c dollar v = refl
-true-rises lo c (push r p n) v = both-true (leb lo r) _ (le-leb lo r (v .0)) (both-true (ltb p c) _ (lt-ltb p c (v .1)) (true-rises (suc r) c n (v .2)))
+true-rises lo c end v b = refl
+true-rises lo c dollar v b = refl
+true-rises lo c (push r p n) v b =
+    both-true (leb lo r) _ (le-leb lo r (v .0))
+    (both-true (ltb r stop) _ (lt-ltb r stop (b .0)) (both-true (ltb p c) _ (lt-ltb p c (v .1)) (true-rises (suc r) c n (v .2) (b .1))))
 
-entry-true : (n : Node) → hasEntry n ≡ true → Full n
-unfolding hasEntry
+entry-true : (n : Node) → ltb 0 (size n) ≡ true → Full n
+unfolding size
 entry-true end e = false≢true e
 entry-true dollar e = tt
 entry-true (push r p n) e = tt
 
-true-entry : (n : Node) → Full n → hasEntry n ≡ true
-unfolding hasEntry
+true-entry : (n : Node) → Full n → ltb 0 (size n) ≡ true
+unfolding size
 true-entry end h = absurd h
 true-entry dollar h = refl
-true-entry (push r p n) h = refl
+true-entry (push r p n) h = lt-ltb 0 (suc (size n)) (omega arith)
 
 nowhere-true : (f : Found) → isNowhere f ≡ true → f ≡ nowhere
 unfolding isNowhere
@@ -70,47 +76,23 @@ true-nowhere : (f : Found) → f ≡ nowhere → isNowhere f ≡ true
 unfolding isNowhere
 true-nowhere f e = ap isNowhere e
 
-pub sound-store-true : (s : Store) → soundStore s ≡ true → Sound s
+pub sound-store-true : (s : Store) → soundStore s ≡ true → Sound s × StoreBelow stop s
 unfolding soundStore
-sound-store-true [] e = tt
+sound-store-true [] e = (tt, tt)
 sound-store-true (n ∷ s) e =
     let f = and-right (rises 0 (length s) n) _ e in
-    let g = and-right (hasEntry n) _ f in (
-      rises-true 0 (length s) n (and-left _ _ e),
-      entry-true n (and-left _ _ f),
-      nowhere-true (find n s) (and-left _ _ g),
-      sound-store-true s (and-right (isNowhere (find n s)) _ g),
-    )
+    let g = and-right (ltb 0 (size n)) _ f in
+    let rise = rises-true 0 (length s) n (and-left _ _ e) in
+    let rest = sound-store-true s (and-right (isNowhere (find n s)) _ g) in
+    ((rise .0, entry-true n (and-left _ _ f), nowhere-true (find n s) (and-left _ _ g), rest .0), (rise .1, rest .1))
 
-pub true-sound-store : (s : Store) → Sound s → soundStore s ≡ true
+pub true-sound-store : (s : Store) → Sound s → StoreBelow stop s → soundStore s ≡ true
 unfolding soundStore
-true-sound-store [] v = refl
-true-sound-store (n ∷ s) v =
-    both-true (rises 0 (length s) n) _ (true-rises 0 (length s) n (v .0))
-    (both-true (hasEntry n) _ (true-entry n (v .1))
-    (both-true (isNowhere (find n s)) _ (true-nowhere (find n s) (v .2)) (true-sound-store s (v .3))))
-
-node-below-true : (k : ℕ) (n : Node) → nodeBelow k n ≡ true → NodeBelow k n
-unfolding nodeBelow
-node-below-true k end e = tt
-node-below-true k dollar e = tt
-node-below-true k (push r p n) e = (ltb-true r k (and-left _ _ e), node-below-true k n (and-right (ltb r k) _ e))
-
-true-node-below : (k : ℕ) (n : Node) → NodeBelow k n → nodeBelow k n ≡ true
-unfolding nodeBelow
-true-node-below k end v = refl
-true-node-below k dollar v = refl
-true-node-below k (push r p n) v = both-true (ltb r k) _ (lt-ltb r k (v .0)) (true-node-below k n (v .1))
-
-pub store-below-true : (k : ℕ) (s : Store) → storeBelow k s ≡ true → StoreBelow k s
-unfolding storeBelow
-store-below-true k [] e = tt
-store-below-true k (n ∷ s) e = (node-below-true k n (and-left _ _ e), store-below-true k s (and-right (nodeBelow k n) _ e))
-
-pub true-store-below : (k : ℕ) (s : Store) → StoreBelow k s → storeBelow k s ≡ true
-unfolding storeBelow
-true-store-below k [] v = refl
-true-store-below k (n ∷ s) v = both-true (nodeBelow k n) _ (true-node-below k n (v .0)) (true-store-below k s (v .1))
+true-sound-store [] v b = refl
+true-sound-store (n ∷ s) v b =
+    both-true (rises 0 (length s) n) _ (true-rises 0 (length s) n (v .0) (b .0))
+    (both-true (ltb 0 (size n)) _ (true-entry n (v .1))
+    (both-true (isNowhere (find n s)) _ (true-nowhere (find n s) (v .2)) (true-sound-store s (v .3) (b .1))))
 
 pub fits-true : (s : Store) → fits s ≡ true → Fits s
 unfolding fits
@@ -124,20 +106,14 @@ pub good-store-true : (s : Store) → goodStore s ≡ true → GoodStore s
 unfolding goodStore
 good-store-true s e =
     let f = and-right (soundStore s) _ e in
-    let g = and-right (storeBelow stop s) _ f in
-    record {
-      sound = sound-store-true s (and-left _ _ e);
-      below = store-below-true stop s (and-left _ _ f);
-      some = ltb-true 0 (length s) (and-left _ _ g);
-      fits = fits-true s (and-right (ltb 0 (length s)) _ g);
-    }
+    let v = sound-store-true s (and-left _ _ e) in
+    record { sound = v .0; below = v .1; some = ltb-true 0 (length s) (and-left _ _ f); fits = fits-true s (and-right (ltb 0 (length s)) _ f) }
 
 pub true-good-store : (s : Store) → GoodStore s → goodStore s ≡ true
 unfolding goodStore
 true-good-store s g =
-    both-true (soundStore s) _ (true-sound-store s (g .sound))
-    (both-true (storeBelow stop s) _ (true-store-below stop s (g .below))
-    (both-true (ltb 0 (length s)) _ (lt-ltb 0 (length s) (g .some)) (true-fits s (g .fits))))
+    both-true (soundStore s) _ (true-sound-store s (g .sound) (g .below))
+    (both-true (ltb 0 (length s)) _ (lt-ltb 0 (length s) (g .some)) (true-fits s (g .fits)))
 
 -- ---- the test decides soundness of words
 

@@ -1,5 +1,5 @@
 // The checks that every call begins with: lengths (2), soundness (1), a known context (4).
-use crate::inner::check::check_store;
+use storecheck::inner::check::check_store;
 use layout::SCRATCH_WORDS;
 use layout::STORE_WORDS;
 use words::ContextId;
