@@ -1,3 +1,2 @@
--- The arithmetic behind the code, apart from any one function: bits of words, and products by halves.
+-- The arithmetic behind the code, apart from any one function: bits of words.
 mod Bits
-mod Product

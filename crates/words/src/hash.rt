@@ -1,7 +1,7 @@
 // The interner's hash: each word is taken in by a rotation, an xor and a multiplication modulo 2^64.
+use crate::multiply::wrapping_mul;
 use crate::names::CompactState;
 ghost use mathlib.Core.Path.{_≡_};
-ghost use Prim.Native.Nat.{_*_, _%_, _^_};
 ghost use lib.Bits.{bitXor};
 ghost use Rattle.words.specs.Hash.{emptyWords, hashOf, mixed, rotated, singletonWords};
 
@@ -20,20 +20,6 @@ pub fn xor(x: u64, y: u64) -> u64
     ensures { λ r. ⌜ r ≡ bitXor x y ⌝ }
 {
     x ^ y
-}
-
-// x times y modulo 2^64, by halves of 32 bits. The product of the two upper halves falls out whole,
-// and of the two crossed products only the lower halves stay. In a program that multiplies by more
-// than one factor the compiler makes one machine multiplication of it, else three.
-pub fn wrapping_mul(x: u64, y: u64) -> u64
-    ensures { λ r. ⌜ r ≡ (x * y) % 2 ^ 64 ⌝ }
-{
-    let x_high = x / 0x1_0000_0000;
-    let x_low = x % 0x1_0000_0000;
-    let y_high = y / 0x1_0000_0000;
-    let y_low = y % 0x1_0000_0000;
-    let crossed = (x_high * y_low) % 0x1_0000_0000 + (x_low * y_high) % 0x1_0000_0000;
-    std::num::wrapping_add_u64(x_low * y_low, crossed << 32)
 }
 
 // The hash after one word more.

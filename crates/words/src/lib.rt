@@ -1,7 +1,8 @@
-// Leaves that everything above cites: the names of the border, the refusals, the interner's hash,
-// work on lent words, and the provenance word.
+// Leaves that everything above cites: the names of the border, the refusals, the interner's hash and
+// its multiplication, work on lent words, and the provenance word.
 mod hash;
 mod lent;
+mod multiply;
 mod names;
 mod provenance;
 mod refusals;
@@ -10,11 +11,11 @@ pub use hash::empty_hash;
 pub use hash::hash_words;
 pub use hash::mix;
 pub use hash::singleton_hash;
-pub use hash::wrapping_mul;
 pub use lent::all_zero;
 pub use lent::clear;
 pub use lent::clear_range;
 pub use lent::copy_range;
+pub use multiply::wrapping_mul;
 pub use names::Alternative;
 pub use names::COMPACT_EMPTY_RETURN_STATE;
 pub use names::CompactState;
