@@ -10,7 +10,7 @@ use native.Mathlib.Omega.{arith}
 use lib.Dec.{ltb}
 use lib.ListN.{length}
 use Rattle.cases.specs.Numbers.{below?}
-use Rattle.stacks.specs.Forest.{Forest, mem}
+use Rattle.stacks.specs.Forest.{Forest, mem, Canon}
 use Rattle.stacks.specs.Merge.{mergeT}
 use Rattle.stacks.specs.Rules.{MergeRule, WildcardMerge}
 use Rattle.stacks.specs.Rules.Laws.{merge-rule}
@@ -81,6 +81,10 @@ module _ (w z : List ℕ) (a b : ℕ) (m : Bool) (c : ℕ) (w′ : List ℕ) (ok
   -- both numbers were known
   pub merge-known-before : (a < contexts w) × (b < contexts w)
   merge-known-before = passed .known
+
+  -- and so the sets of the sides are in canonical form
+  pub sides-canon : Canon (tree (storeOf w) a) × Canon (tree (storeOf w) b)
+  sides-canon = (tree-canon (storeOf w) (passed .good .sound) a ha .1, tree-canon (storeOf w) (passed .good .sound) b hb .1)
 
   -- the store that the merge made
   after : After (mergeS m (storeOf w) a b) c w′

@@ -4,3 +4,4 @@ pub mod Words
 pub mod FirstDemand
 pub mod SecondDemand
 pub mod ThirdDemand
+pub mod WildcardLosses

@@ -5,3 +5,4 @@ pub mod Merge
 pub mod Algebra
 pub mod Rules
 pub mod Finite
+pub mod Losses

@@ -34,7 +34,7 @@ is-swallowed (swallowed h d) k = d
 is-swallowed (merged n e l r b) k = absurd (n k)
 
 -- x is a top state of both sides, or of one side at most; all but settled: a falsehood follows from each
-by-tops : (A B : Stacks) (x : ℕ) → (NoTop A x → ⊥) → (NoTop B x → ⊥) → (Top A x → Top B x → ⊥) → ⊥
+pub by-tops : (A B : Stacks) (x : ℕ) → (NoTop A x → ⊥) → (NoTop B x → ⊥) → (Top A x → Top B x → ⊥) → ⊥
 by-tops A B x a b both = a (λ σ. is-false (A (x ∷ σ)) (λ s. b (λ τ. is-false (B (x ∷ τ)) (λ t. both (σ, s) (τ, t)))))
 
 -- Any two results of one wildcard merge have the same stacks, whatever the sets are.
@@ -98,7 +98,7 @@ unfolding mem
 no-top F x v n = ext (under F x) none (under-canon 0 F x v) tt (λ σ. sym (mem-under 0 F x σ v) ∙ n σ)
 
 -- beneath a state, as sets by their stacks
-beneath-under : (F : Forest) (x : ℕ) → Canon F → mem (under F x) ≡ beneath (mem F) x
+pub beneath-under : (F : Forest) (x : ℕ) → Canon F → mem (under F x) ≡ beneath (mem F) x
 beneath-under F x v = fun-ext (λ σ. sym (mem-under 0 F x σ v))
 
 -- the sentences hold of the merge if they hold beneath each top state of the left side
