@@ -14,13 +14,13 @@ use Rattle.stacks.specs.Forest.{Forest, mem, Canon}
 use Rattle.stacks.specs.Merge.{mergeT}
 use Rattle.stacks.specs.Rules.{MergeRule, WildcardMerge}
 use Rattle.stacks.specs.Rules.Laws.{merge-rule}
-use Rattle.arena.specs.Store.{tree}
+use Rattle.arena.specs.Store.{Store, tree}
 use Rattle.arena.specs.Trees.{tree-canon}
 use Rattle.arena.specs.Stands.{stands}
 use Rattle.arena.specs.Identity.{same-stacks}
 use Rattle.arena.specs.Place.{mergeS}
 use Rattle.arena.specs.Placed.{grew-tree, grew-length}
-use Rattle.arena.specs.Steps.{merge-holds, merge-grew, merge-sides}
+use Rattle.arena.specs.Steps.{merge-holds, merge-grew, merge-same, merge-sides}
 use Rattle.arena.specs.Numbering.{parts, sets, allJoined}
 use Rattle.arena.specs.Numbering.Laws.{merge-numbers}
 use Rattle.arena.specs.Below.Laws.{tree-below, merge-below, place-below}
@@ -53,6 +53,7 @@ module _ (w z : List ℕ) (a b : ℕ) (m : Bool) (c : ℕ) (w′ : List ℕ) (ok
   record Passed : Type 0 where
     pub sized : length w ≡ storeWords
     pub good : GoodStore (storeOf w)
+    pub words : w ≡ wordsOf (storeOf w)
     pub known : (a < contexts w) × (b < contexts w)
     pub fits : Fits (mergeS m (storeOf w) a b .1)
     pub number : mergeS m (storeOf w) a b .0 ≡ c
@@ -63,9 +64,11 @@ module _ (w z : List ℕ) (a b : ℕ) (m : Bool) (c : ℕ) (w′ : List ℕ) (ok
   passed =
       let r = accepted w z _ (mergeS m (storeOf w) a b) c w′ ok in
       let l = right-lengths w z (r .0 .0) .0 in
+      let d = decoded w l (sound-true w l (is-sound w z (r .0 .1 .0))) in
       record {
         sized = l;
-        good = decoded w l (sound-true w l (is-sound w z (r .0 .1 .0))) .0;
+        good = d .0;
+        words = d .1;
         known = both-known w z a b (r .0 .1 .1 .0);
         fits = has-room _ (r .0 .1 .1 .1 .0);
         number = r .1;
@@ -108,13 +111,23 @@ module _ (w z : List ℕ) (a b : ℕ) (m : Bool) (c : ℕ) (w′ : List ℕ) (ok
   pub merge-sound-after : (length w′ ≡ storeWords) × (sound w′ ≡ true) × (c < contexts w′)
   merge-sound-after = (after .sized, after .sound .0, after .sound .1)
 
+  -- its set is the merge of the sides' sets
+  pub merge-tree : tree (storeOf w′) c ≡ mergeT m (tree (storeOf w) a) (tree (storeOf w) b)
+  merge-tree = (rw (store-after, ← passed .number)) ∙ merge-holds m (storeOf w) (passed .good .sound) a b ha hb .is
+
   -- the number stands for the merged set, by the rule of its mode
   pub merge-stands : MergeRule m (mem (tree (storeOf w) a)) (mem (tree (storeOf w) b)) (mem (tree (storeOf w′) c))
   merge-stands =
       let s = storeOf w in
-      let h = merge-holds m s (passed .good .sound) a b ha hb in
-      let is : tree (storeOf w′) c ≡ mergeT m (tree s a) (tree s b) = (rw (store-after, ← passed .number)) ∙ h .is in
-      rw is (merge-rule m _ _ (tree-canon s (passed .good .sound) a ha .1) (tree-canon s (passed .good .sound) b hb .1))
+      rw merge-tree (merge-rule m _ _ (tree-canon s (passed .good .sound) a ha .1) (tree-canon s (passed .good .sound) b hb .1))
+
+  -- a context merged with itself gives its number, and nothing is made
+  pub itself : a ≡ b → (c ≡ a) × (w′ ≡ w)
+  itself e =
+      let s = storeOf w in
+      let same : mergeS m s a b ≡ (a, s) = merge-same m s (passed .good .sound) a b ha hb e in
+      (sym (passed .number) ∙ ap (λ (x : ℕ × Store). x .0) same,
+      sym (passed .after) ∙ ap (λ (x : ℕ × Store). wordsOf (x .1)) same ∙ sym (passed .words))
 
   -- every older number's set is as it was, and none goes
   pub older-kept : (k : ℕ) → k < contexts w → (k < contexts w′) × ((σ : List ℕ) → stands (storeOf w′) k σ ≡ stands (storeOf w) k σ)

@@ -11,9 +11,10 @@ use borrow.Author.Tests.{eq-eqb, ne-eqb, lt-leb, le-leb}
 use Rattle.cases.specs.Bools.{bool?, never-both}
 use Rattle.cases.specs.Numbers.{two, below?, never}
 use Rattle.words.specs.Names.{emptyMark}
-use Rattle.stacks.specs.Forest.{Forest, none, over, mem}
+use Rattle.stacks.specs.Forest.{Forest, none, mark, over, mem}
 use Rattle.arena.specs.Store.{Store, tree}
 use Rattle.arena.specs.Trees.{tree-canon}
+use Rattle.arena.specs.Identity.{tree-root}
 use Rattle.arena.specs.Stands.{stands}
 use Rattle.arena.specs.Place.{place}
 use Rattle.arena.specs.Placed.{grew-tree, place-grew, Holds, place-holds}
@@ -139,6 +140,18 @@ module _ (w z : List ℕ) (p r : ℕ) (c : ℕ) (w′ : List ℕ) (ok : Accepts 
       let a = placed-after (ne-eqb r emptyMark (λ e. omega arith)) l in
       let is : tree (storeOf w′) c ≡ over r (tree (storeOf w) p) none = (rw (a .0 .store, ← a .1)) ∙ placed-holds .is in
       (rw is, λ x σ. rw is (or-false _))
+
+  -- the same of the set: r on top of each stack of p, or the empty stack alone
+  pub single-tree : tree (storeOf w′) c ≡ elim (eqb r emptyMark) [ true ↦ mark | false ↦ over r (tree (storeOf w) p) none ]
+  unfolding raised
+  single-tree =
+      state?
+      (λ e. let m = mark-after e in rw (e, ← m .0, ← m .1) (tree-root (storeOf w) (passed .good .sound) (passed .good .some)))
+      (λ e l. let a = placed-after e l in rw (e, a .0 .store, ← a .1) (placed-holds .is))
+
+  -- the parent was known
+  pub parent-known : p < contexts w
+  parent-known = passed .known
 
   -- the number is in a sound store
   pub single-sound-after : (length w′ ≡ storeWords) × (sound w′ ≡ true) × (c < contexts w′)

@@ -13,7 +13,7 @@ use Rattle.encoding.specs.Decide.{sound}
 use Rattle.store.specs.Calls.{Accepts}
 use Rattle.contexts.specs.MergeCall.{mergeCall}
 use Rattle.contexts.specs.Promises.{merge-is-union, merge-sound-after, merge-known-before, equal-exactly}
-use Rattle.runs.specs.Runs.{Event, merged, Step, full, Run, begin, next, Merges, context, both, Names, here, left, right, SameContexts, Answers, named, called, later}
+use Rattle.runs.specs.Runs.{Event, merged, Step, merge, Run, begin, next, Merges, context, both, Names, here, left, right, SameContexts, Answers, named, called, later}
 use Rattle.runs.specs.Growth.{Whole, Grows, step-grows, run-grows}
 
 -- ---- what merges stand for
@@ -87,8 +87,8 @@ answer-stood h r named = inl refl
 answer-stood {x = both x y} h (next {u = u} {v = v} r s) (called {a = a} {b = b} {c = c} p q) =
     inr (by-call s (answer-stood h r p) (answer-stood h r q) (step-grows (run-grows h r .whole) s))
   where
-    by-call : Step u (merged a b c) v → Stood u x a → Stood u y b → Grows u v → Union v (both x y) c
-    by-call (full z _ _ _ ok) hx hy g = merge-union u z a b c v x y g ok hx hy
+    by-call : Step u (merged false a b c) v → Stood u x a → Stood u y b → Grows u v → Union v (both x y) c
+    by-call (merge z _ _ _ _ ok) hx hy g = merge-union u z a b c v x y g ok hx hy
 answer-stood {x = x} {c = c} h (next r s) (later p) = stood-grows x c (step-grows (run-grows h r .whole) s) (answer-stood h r p)
 
 -- ---- the same contexts, the same union

@@ -17,7 +17,7 @@ use Rattle.contexts.specs.MergeCall.{mergeCall}
 use Rattle.sets.specs.Layout.{configAt, flag}
 use Rattle.configs.specs.Sentences.{answer-merged, merged-call, inserted-store, closed-store}
 use Rattle.contexts.specs.Promises.{merge-sound-after, older-kept}
-use Rattle.runs.specs.Runs.{Event, Step, singleton, wildcard, full, query, add, close, Run, begin, next}
+use Rattle.runs.specs.Runs.{Event, Step, singleton, merge, query, add, close, Run, begin, next}
 
 -- the words of a sound store
 pub record Whole (w : List ℕ) : Type 0 where
@@ -58,8 +58,7 @@ step-grows {u} {v} h (singleton z p r c ok) = record {
   known = λ k l. single-older-kept u z p r c v ok k l .0;
   same = λ k l. single-older-kept u z p r c v ok k l .1;
 }
-step-grows {u} {v} h (wildcard z a b c ok) = merge-grows u z a b true c v ok
-step-grows {u} {v} h (full z a b c ok) = merge-grows u z a b false c v ok
+step-grows {u} {v} h (merge z m a b c ok) = merge-grows u z a b m c v ok
 step-grows {u} {v} h (query z c r e) = let q : u ≡ v = sym (asked-store u z c r) ∙ e in subst (Grows u) q (grows-refl u h)
 step-grows {u} {v} h (add s z x a s′ ok) =
     two a 0

@@ -8,7 +8,7 @@ use Rattle.layout.specs.Layout.{storeWords}
 use Rattle.encoding.specs.Decide.{sound}
 use Rattle.store.specs.Calls.{Accepts}
 use Rattle.contexts.specs.MergeCall.{mergeCall}
-use Rattle.runs.specs.Runs.{Event, full, Run, begin, next, Merges, context, both, SameContexts, Answers, named, called, later}
+use Rattle.runs.specs.Runs.{Event, merge, Run, begin, next, Merges, context, both, SameContexts, Answers, named, called, later}
 use Rattle.runs.specs.Grouping.{one-number}
 
 -- the full merges of x called depth first, the left side's, the right side's, and then its own: the number answered, and the words after
@@ -36,7 +36,7 @@ in-turn leaf = ([], begin, named)
 in-turn (turn {a = a} {b = b} {c = c} p q z ok) =
     let x = in-turn p in
     let y = in-turn q in
-    (_, next (runs-on (x .1) (y .1)) (full z a b c ok), called (after (y .0) (x .2)) (before (x .0) (y .2)))
+    (_, next (runs-on (x .1) (y .1)) (merge z false a b c ok), called (after (y .0) (x .2)) (before (x .0) (y .2)))
 
 -- x is called, then whatever else, then y over the same contexts: one number
 pub calls-one-number : {w w₁ w₂ w₃ : List ℕ} {x y : Merges} {c d : ℕ} {es : List Event} → length w ≡ storeWords → sound w ≡ true → SameContexts x y

@@ -1,6 +1,6 @@
 -- To believe: accepted calls made one after another in one store, and the contexts that the full merges behind an answer go back to.
 use mathlib.Core.Path.{_≡_}
-use mathlib.Core.Bool.{true, false}
+use mathlib.Core.Bool.{Bool, false}
 use mathlib.Core.List.{List, [], _∷_}
 use Prim.Native.Nat.{ℕ}
 use Rattle.store.specs.Calls.{Reply, zeros, asked, Accepts}
@@ -9,16 +9,16 @@ use Rattle.contexts.specs.MergeCall.{mergeCall}
 use Rattle.sets.specs.Config.{Config}
 use Rattle.sets.specs.Calls.{done, added, setLeft, addCall, closeCall}
 
--- what a call was: a full-context merge of a and b that answered c, or any other
+-- what a call was: a merge of a and b, by wildcard or full-context, that answered c; a state r over the context p, which answered c; or any other
 pub data Event : Type 0 where
-  merged : ℕ → ℕ → ℕ → Event
+  merged : Bool → ℕ → ℕ → ℕ → Event
+  placed : ℕ → ℕ → ℕ → Event
   other : Event
 
 -- one accepted call that is lent a store, from its words before to those after, with any scratch and any set; the calls on subsets write neither
 pub data Step : List ℕ → Event → List ℕ → Type 0 where
-  singleton : {w w′ : List ℕ} (z : List ℕ) (p r c : ℕ) → Accepts (singletonCall w z p r) c w′ → Step w other w′
-  wildcard : {w w′ : List ℕ} (z : List ℕ) (a b c : ℕ) → Accepts (mergeCall w z a b true) c w′ → Step w other w′
-  full : {w w′ : List ℕ} (z : List ℕ) (a b c : ℕ) → Accepts (mergeCall w z a b false) c w′ → Step w (merged a b c) w′
+  singleton : {w w′ : List ℕ} (z : List ℕ) (p r c : ℕ) → Accepts (singletonCall w z p r) c w′ → Step w (placed p r c) w′
+  merge : {w w′ : List ℕ} (z : List ℕ) (m : Bool) (a b c : ℕ) → Accepts (mergeCall w z a b m) c w′ → Step w (merged m a b c) w′
   query : {w w′ : List ℕ} (z : List ℕ) (c : ℕ) (r : Reply) → asked w z c r .store ≡ w′ → Step w other w′
   add : {w w′ : List ℕ} (v z : List ℕ) (x : Config) (a : ℕ) (v′ : List ℕ) → addCall w v z x ≡ setLeft (added a) w′ v′ zeros → Step w other w′
   close : {w w′ : List ℕ} (v z v′ : List ℕ) → closeCall w v z ≡ setLeft done w′ v′ zeros → Step w other w′
@@ -48,5 +48,5 @@ SameContexts x y = ((c : ℕ) → Names c x → Names c y) × ((c : ℕ) → Nam
 -- the number c is the answer of the full merges x, each made by a call of the run, in whatever order; sides may be used twice
 pub data Answers : List Event → Merges → ℕ → Type 0 where
   named : {es : List Event} {c : ℕ} → Answers es (context c) c
-  called : {es : List Event} {x y : Merges} {a b c : ℕ} → Answers es x a → Answers es y b → Answers (merged a b c ∷ es) (both x y) c
+  called : {es : List Event} {x y : Merges} {a b c : ℕ} → Answers es x a → Answers es y b → Answers (merged false a b c ∷ es) (both x y) c
   later : {e : Event} {es : List Event} {x : Merges} {c : ℕ} → Answers es x c → Answers (e ∷ es) x c
