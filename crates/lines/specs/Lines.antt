@@ -37,9 +37,9 @@ addedLine n = numberLine 65 n
 unfoldable pub stopsLine : ℕ → List ℕ
 stopsLine n = numberLine 83 n
 
--- "Where there is no alternative, 0 is printed"
+-- "Print `-` for none .. and let 0 mean alternative 0 only" (request A2)
 unfoldable pub alternativeBytes : Answer → List ℕ
-alternativeBytes none = spaced 0
+alternativeBytes none = 32 ∷ 45 ∷ []
 alternativeBytes (only a) = spaced a
 
 -- "verdict 1 or 0"

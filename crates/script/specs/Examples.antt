@@ -113,7 +113,7 @@ pub faults : (readAt (4 ∷ 0 ∷ 7 ∷ 0 ∷ 2 ∷ 0 ∷ 0 ∷ []) 0 ≡ malfor
 unfolding readAt recordAt payloadAt accepts payloadOf payloads u16At u32At
 faults = (refl, refl, refl, refl, refl, refl, refl, refl)
 
--- the whole output: `C 1`, `C 2`, `E 2 42>0 $`, `N`, `A 1`, `A 1`, `V 1 0 1 1`, `T 3 2`
+-- the whole output: `C 1`, `C 2`, `E 2 42>0 $`, `N`, `A 1`, `A 1`, `V 1 - 1 1`, `T 3 2`
 pub example : scriptReplies script ≡
     67 ∷ 32 ∷ 49 ∷ 10
     ∷ 67 ∷ 32 ∷ 50 ∷ 10
@@ -121,7 +121,7 @@ pub example : scriptReplies script ≡
     ∷ 78 ∷ 10
     ∷ 65 ∷ 32 ∷ 49 ∷ 10
     ∷ 65 ∷ 32 ∷ 49 ∷ 10
-    ∷ 86 ∷ 32 ∷ 49 ∷ 32 ∷ 48 ∷ 32 ∷ 49 ∷ 32 ∷ 49 ∷ 10
+    ∷ 86 ∷ 32 ∷ 49 ∷ 32 ∷ 45 ∷ 32 ∷ 49 ∷ 32 ∷ 49 ∷ 10
     ∷ 84 ∷ 32 ∷ 51 ∷ 32 ∷ 50 ∷ 10 ∷ []
 unfolding script opened fresh u16At u32At u64At configFrom payloads payloadOf accepts payloadAt recordAt readAt endLine readingStep stepOf runFrom runOf scriptReplies
 example = refl
@@ -168,3 +168,12 @@ pub P1-to-P12 :
     × (judged (add (config 7 1 0) ∷ add (config 7 2 0) ∷ add (config 8 2 0) ∷ []) ≡ summary (record { subsets = 2; unique = none; viable = none; verdict = false }))
 unfolding said saidFrom judged leftFrom fresh opened
 P1-to-P12 = (refl, refl, refl, refl, refl, refl, refl, refl, refl, refl, refl, refl)
+
+-- ---- none is told from alternative 0
+
+-- a set on alternative 0 alone: `V 1 0 0 0`; an empty one: `V 0 - - 1`
+pub zero-and-none :
+    (said (add (config 7 0 0) ∷ verdict ∷ []) ≡ addedLine 1 ++ 86 ∷ 32 ∷ 49 ∷ 32 ∷ 48 ∷ 32 ∷ 48 ∷ 32 ∷ 48 ∷ 10 ∷ [])
+    × (said (verdict ∷ []) ≡ 86 ∷ 32 ∷ 48 ∷ 32 ∷ 45 ∷ 32 ∷ 45 ∷ 32 ∷ 49 ∷ 10 ∷ [])
+unfolding said saidFrom fresh opened
+zero-and-none = (refl, refl)

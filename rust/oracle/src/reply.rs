@@ -57,13 +57,17 @@ impl fmt::Display for Reply {
 }
 
 impl fmt::Display for Verdict {
-    /// Where there is no alternative, 0 is printed.
+    /// Where there is no alternative, `-` is printed; 0 is alternative 0.
     fn fmt(&self, out: &mut fmt::Formatter<'_>) -> fmt::Result {
-        let unique = self.unique.unwrap_or(0);
-        let viable = self.viable.unwrap_or(0);
+        let unique = shown(self.unique);
+        let viable = shown(self.viable);
         let terminates = u8::from(self.terminates);
         write!(out, "V {} {unique} {viable} {terminates}", self.subsets)
     }
+}
+
+fn shown(alternative: Option<u32>) -> String {
+    alternative.map_or_else(|| "-".to_owned(), |number| number.to_string())
 }
 
 fn show_entries(entries: &[Option<(u32, u32)>], out: &mut fmt::Formatter<'_>) -> fmt::Result {

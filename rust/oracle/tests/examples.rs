@@ -46,7 +46,7 @@ fn the_worked_example_has_the_documents_bytes() {
     let bytes = text::assemble(&hex).expect("good hexadecimal");
     assert_eq!(script("worked-example.txt"), bytes);
     let lines = run(&bytes, Kinds::All).lines;
-    assert_eq!(lines, b"C 1\nC 2\nE 2 42>0 $\nN\nA 1\nA 1\nV 1 0 1 1\nT 3 2\n");
+    assert_eq!(lines, b"C 1\nC 2\nE 2 42>0 $\nN\nA 1\nA 1\nV 1 - 1 1\nT 3 2\n");
 }
 
 #[test]

@@ -10,6 +10,7 @@ use lines::inner::numbers::lay_number;
 ghost use mathlib.Core.Path.{_≡_};
 ghost use Prim.Native.Nat.{_+_, _-_, _≤_};
 ghost use lib.ListN.{drop, length, take};
+ghost use Rattle.groups.specs.Answers.{none};
 ghost use Rattle.deciding.specs.OneAlt.{oneAlt};
 ghost use Rattle.verdicts.specs.Calls.{summary};
 ghost use Rattle.figures.specs.Calls.{figuresCall};
@@ -27,14 +28,23 @@ fn put_number(out: &mut [u8], at: usize, n: u32) -> usize
     put_spaced(out, at, n)
 }
 
-// Lays an alternative, or that there is none.
+// Lays a space and the sign for none.
+fn put_none(out: &mut [u8], at: usize) -> usize
+    requires { ⌜ at + 11 ≤ length (now out) ⌝ }
+    ensures { λ r. ⌜ Piece (now (out .entry)) at (alternativeBytes none) r (now (out .exit)) ⌝ }
+{
+    let next = put_byte(out, at, b' ');
+    put_byte(out, next, b'-')
+}
+
+// Lays an alternative, or that there is none: alternative 0 is one.
 fn put_alternative(out: &mut [u8], at: usize, found: OneAlt) -> usize
     requires { ⌜ at + 11 ≤ length (now out) ⌝ }
     ensures { λ r. ⌜ Piece (now (out .entry)) at (alternativeBytes (oneAlt found)) r (now (out .exit)) ⌝ }
 {
     match found {
         OneAlt::Only(alternative) => put_number(out, at, alternative.0),
-        OneAlt::Nothing => put_number(out, at, 0),
+        OneAlt::Nothing => put_none(out, at),
     }
 }
 

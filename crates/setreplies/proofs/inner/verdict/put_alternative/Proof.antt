@@ -15,8 +15,8 @@ returns-2 : tie.Need-returns-2
 unfolding alternativeBytes
 returns-2 c =
     let enum-told = c .before .before .before .before .enum-told in
-    let put-number2 = c .before .before .put-number2 in
-    rw (enum-told .given .1) (put-number2 .ensures)
+    let put-none = c .before .before .put-none in
+    rw (enum-told .given .1) (put-none .ensures)
 
 pub put-alternative-spec : {M : Type 1} → statement M
 put-alternative-spec =
