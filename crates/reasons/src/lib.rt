@@ -1,0 +1,1 @@
+// Why the verdict on a set is what it is.
