@@ -54,7 +54,7 @@ product-few {a} {b} h k = omega (arith, mul-le-mul-right b h, k)
 
 module _ (k : Alike) (p : Picks) (K P : Config → Config → Type 0)
     (kind : (c d : Config) → (alikeOf k c d ≡ true) ↔ K c d) (pick : (c d : Config) → (picks p c d ≡ true) ↔ P c d) (cs : List Config) where
-  both-exact : (c d : Config) → ((alikeOf k c d && picks p c d) ≡ true) ↔ (K c d × P c d)
+  pub both-exact : (c d : Config) → ((alikeOf k c d && picks p c d) ≡ true) ↔ (K c d × P c d)
   both-exact c d = (
     λ e. (kind c d .0 (and-left _ _ e), pick c d .0 (and-right (alikeOf k c d) _ e)),
     λ h. both-true _ _ (kind c d .1 (h .0)) (pick c d .1 (h .1)),
@@ -64,10 +64,10 @@ module _ (k : Alike) (p : Picks) (K P : Config → Config → Type 0)
   unfolding eachPicked
   picked-exact = all-exact _ (λ c. Any (λ d. K c d × P c d) cs) cs (λ c. any-exact _ (λ d. K c d × P c d) cs (both-exact c))
 
-place-exact : (c d : Config) → (alikeOf Place c d ≡ true) ↔ Beside c d
+pub place-exact : (c d : Config) → (alikeOf Place c d ≡ true) ↔ Beside c d
 place-exact c d = (place-true c d, true-place c d)
 
-rival-exact : (c d : Config) → (picks Rivals c d ≡ true) ↔ (d .alternative ≡ c .alternative → ⊥)
+pub rival-exact : (c d : Config) → (picks Rivals c d ≡ true) ↔ (d .alternative ≡ c .alternative → ⊥)
 rival-exact c d = (
   λ e. eqb-false (d .alternative) (c .alternative) (not-true _ e),
   λ n. rw (ne-eqb (d .alternative) (c .alternative) n),
@@ -89,7 +89,7 @@ holders-picked cs a x e =
 -- ---- no state has just one
 
 -- some that passes s fails e, exactly if not all that pass s pass e
-any-fails : {A : Type 0} (s e : A → Bool) (xs : List A) → any (λ x. s x && not (e x)) xs ≡ not (all e (which s xs))
+pub any-fails : {A : Type 0} (s e : A → Bool) (xs : List A) → any (λ x. s x && not (e x)) xs ≡ not (all e (which s xs))
 unfolding any all which
 any-fails s e [] = refl
 any-fails s e (x ∷ xs) =

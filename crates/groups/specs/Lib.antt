@@ -1,4 +1,4 @@
--- The subsets of a set's configs, and the answers on them. To believe: Lists, Groups, Answers, Sentences.
+-- The subsets of a set's configs, and the answers on them. To believe: Lists, Groups, Answers, Sentences, Reason.
 -- To read beside document 01: Rules, Conflicts, Equal, Single, Decided. For code: Last, Parts, Counted, Room. For readers: Renamed.
 pub mod Lists
 pub mod Groups
@@ -16,3 +16,4 @@ pub mod Parts
 pub mod Room
 pub mod Counted
 pub mod Renamed
+pub mod Reason

@@ -1,3 +1,9 @@
--- Why a verdict is what it is. To believe: Reason. Proved of it in Reason.Laws: the reason given is true of the set, no earlier one held, and the
--- two together force the verdict.
-pub mod Reason
+-- Why a verdict is what it is, as a call. To believe: Calls, Replies; the reason itself is groups: Reason.
+pub mod Calls
+pub mod Replies
+pub mod First
+pub mod Marked
+pub mod Because
+pub mod Finds
+pub mod Clash
+pub mod Told

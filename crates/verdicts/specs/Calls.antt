@@ -10,6 +10,7 @@ use Rattle.sets.specs.Words.{setOf}
 use Rattle.store.specs.Checks.{Check, given, unless}
 use Rattle.sets.specs.Calls.{lentLengths, lentChecks}
 use Rattle.groups.specs.Answers.{Answer, allSubsetsConflict, allSubsetsEqual, singleViableAlt, uniqueAlt, verdict}
+use Rattle.groups.specs.Reason.{Reason}
 use Rattle.outputs.specs.Outputs.{subsetsLength, altsLength, subsetsWords, altsWords}
 
 -- the number of subsets, the unique and the viable alternative, the verdict
@@ -19,13 +20,14 @@ pub record Summary : Type 0 where
   pub viable : Answer
   pub verdict : Bool
 
--- a refusal with its number; yes or no; an alternative, or none; words written; a summary
+-- a refusal with its number; yes or no; an alternative, or none; words written; a summary; the reason of a verdict
 pub data VerdictReply : Type 0 where
   refused : ℕ → VerdictReply
   says : Bool → VerdictReply
   alternative : Answer → VerdictReply
   written : VerdictReply
   summary : Summary → VerdictReply
+  because : Reason → VerdictReply
 
 -- the reply, and every word afterwards of what a call may write
 pub record VerdictLeft : Type 0 where

@@ -71,7 +71,7 @@ fn stops_too(set: &[u32], stops: &[u32], place: usize) -> bool
 }
 
 // Is every config in a listed stop state?
-fn all_stopped(set: &[u32], stops: &[u32]) -> bool
+pub fn all_stopped(set: &[u32], stops: &[u32]) -> bool
     requires { ⌜ Counted (now set) ⌝ }
     ensures { λ r. ⌜ r ≡ stopped (now (stops .entry)) (configsOf (now (set .entry))) ⌝ }
 {

@@ -21,7 +21,7 @@ ghost use Rattle.outputs.specs.Outputs.{subsetsLength, subsetsWords};
 ghost use Rattle.outputs.specs.Written.{Ending, Listing};
 
 // Writes the alternatives of the subset whose first config stands at a place. How many are there?
-fn write_members(
+pub fn write_members(
     set: &[u32],
     scratch: &[u32],
     output: &mut [u32],

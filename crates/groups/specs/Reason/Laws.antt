@@ -8,15 +8,15 @@ use Prim.Native.Nat.{ℕ}
 use Rattle.cases.specs.Bools.{bool?, is-false, never-both}
 use Rattle.sets.specs.Config.{Config}
 use Rattle.sets.specs.Lists.{any}
 use Rattle.groups.specs.Lists.{Any, All, In}
 use Rattle.groups.specs.Lists.Laws.{some-in, in-some, every-in}
 use Rattle.groups.specs.Lists.Tests.{or-true, any-exact}
 use Rattle.groups.specs.Groups.{Group, groups}
 use Rattle.groups.specs.Answers.{many, stopped, justOne, verdict}
 use Rattle.groups.specs.Sentences.{Many, Stopped, Conflict, JustOne}
 use Rattle.groups.specs.Conflicts.{many-exact, conflict-groups, any-many}
 use Rattle.groups.specs.Decided.{stopped-exact, just-exact}
-use Rattle.reasons.specs.Reason.{Reason, stop, none, one, clash, pick, reason, FirstOf, Holds, NoEarlier, says}
+use Rattle.groups.specs.Reason.{Reason, stop, none, one, clash, pick, reason, FirstOf, Holds, NoEarlier, says}
 
 -- ---- the first of a list
 

@@ -1,0 +1,4 @@
+// The walks behind the reason: no part of the public face.
+pub mod find;
+pub mod first;
+pub mod walk;
