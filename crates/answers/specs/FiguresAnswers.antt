@@ -2,7 +2,7 @@
 use mathlib.Core.Bool.{false}
 use Prim.Native.Nat.{ℕ}
 use Rattle.groups.specs.Answers.{none}
-use Rattle.verdicts.specs.Calls.{Summary, VerdictReply, refused, says, alternative, written, summary}
+use Rattle.verdicts.specs.Calls.{Summary, VerdictReply, refused, says, alternative, written, summary, because}
 use Rattle.answers.specs.VerdictAnswers.{verdictNumberOf, verdictValueOf, verdictFoundOf}
 use Rattle.answers.specs.declared.figuring.FiguresAnswer.{FiguresAnswer}
 
@@ -15,6 +15,7 @@ figuresIn (refused n) = noFigures
 figuresIn (says b) = noFigures
 figuresIn (alternative a) = noFigures
 figuresIn written = noFigures
+figuresIn (because r) = noFigures
 
 abbrev pub figuresAnswerOf : VerdictReply → FiguresAnswer
 figuresAnswerOf r = record {

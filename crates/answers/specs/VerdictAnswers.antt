@@ -2,7 +2,7 @@
 use mathlib.Core.Bool.{true, false}
 use Prim.Native.Nat.{ℕ}
 use Rattle.groups.specs.Answers.{none, only}
-use Rattle.verdicts.specs.Calls.{VerdictReply, refused, says, alternative, written, summary}
+use Rattle.verdicts.specs.Calls.{VerdictReply, refused, says, alternative, written, summary, because}
 use Rattle.answers.specs.declared.structs.Answer.{Answer}
 use Rattle.answers.specs.declared.structs.EntryAnswer.{EntryAnswer}
 
@@ -12,6 +12,7 @@ verdictNumberOf (says b) = 0
 verdictNumberOf (alternative a) = 0
 verdictNumberOf written = 0
 verdictNumberOf (summary x) = 0
+verdictNumberOf (because x) = 0
 
 unfoldable pub verdictValueOf : VerdictReply → ℕ
 verdictValueOf (refused n) = 0
@@ -21,6 +22,7 @@ verdictValueOf (alternative none) = 0
 verdictValueOf (alternative (only a)) = a
 verdictValueOf written = 0
 verdictValueOf (summary x) = 0
+verdictValueOf (because x) = 0
 
 unfoldable pub verdictFoundOf : VerdictReply → ℕ
 verdictFoundOf (refused n) = 0
@@ -29,6 +31,7 @@ verdictFoundOf (alternative none) = 0
 verdictFoundOf (alternative (only a)) = 1
 verdictFoundOf written = 0
 verdictFoundOf (summary x) = 0
+verdictFoundOf (because x) = 0
 
 abbrev pub verdictAnswerOf : VerdictReply → Answer
 verdictAnswerOf r = record { refusal = verdictNumberOf r; value = verdictValueOf r }

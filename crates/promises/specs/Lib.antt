@@ -6,3 +6,4 @@ pub mod SecondDemand
 pub mod ThirdDemand
 pub mod WildcardLosses
 pub mod MergeLaws
+pub mod VerdictReasons

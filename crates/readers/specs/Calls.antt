@@ -99,6 +99,7 @@ judged (Verdicts.says b) g = plain (ofSubsets (Verdicts.says b))
 judged (Verdicts.alternative a) g = plain (ofSubsets (Verdicts.alternative a))
 judged Verdicts.written g = g
 judged (Verdicts.summary x) g = plain (ofSubsets (Verdicts.summary x))
+judged (Verdicts.because x) g = plain (ofSubsets (Verdicts.because x))
 
 -- "group count, then per group state, context, alternative count, alternatives"
 unfoldable pub groupsFrom : ℕ → List ℕ → List (Part ℕ)

@@ -7,3 +7,4 @@ pub mod Because
 pub mod Finds
 pub mod Clash
 pub mod Told
+pub mod Sentences

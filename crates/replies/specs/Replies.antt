@@ -12,7 +12,7 @@ use Rattle.store.specs.Checks.{given, unless}
 use Rattle.store.specs.Calls.{Reply, refused, done, shown, context, count, state, holds, none, Left, zeros, asked}
 use Rattle.sets.specs.Calls.{SetReply, added, SetLeft, setLeft, freshSetCall, addCall, closeCall}
 use Rattle.sets.specs.Calls.{refused as setRefused, done as setDone}
-use Rattle.verdicts.specs.Calls.{VerdictReply, says, alternative, written, summary, VerdictLeft, mostStops}
+use Rattle.verdicts.specs.Calls.{VerdictReply, says, alternative, written, summary, because, VerdictLeft, mostStops}
 use Rattle.verdicts.specs.Calls.{refused as verdictRefused}
 use Rattle.figures.specs.Calls.{figuresCall}
 use Rattle.interning.specs.SingletonCall.{singletonCall}
@@ -96,6 +96,7 @@ verdictLineOf (summary f) = figuresLine (f .subsets) (f .unique) (f .viable) (f 
 verdictLineOf (says b) = []
 verdictLineOf (alternative a) = []
 verdictLineOf written = []
+verdictLineOf (because r) = []
 
 abbrev pub onVerdict : Lent → VerdictLeft → Printed
 onVerdict l x = record { reply = verdictLineOf (x .reply); words = lent (l .store) (l .set) (l .stops) (x .scratch) }

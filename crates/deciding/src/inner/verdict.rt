@@ -50,7 +50,7 @@ fn listed_too(stops: &[u32], last: u32, state: u32) -> bool
 }
 
 // The state of a config.
-fn state_of(set: &[u32], place: usize) -> u32
+pub fn state_of(set: &[u32], place: usize) -> u32
     requires { ⌜ (length (now set) ≡ setWordsLength) × (place < mostConfigs) ⌝ }
     ensures { λ r. ⌜ r ≡ configAt (now (set .entry)) place .state ⌝ }
 {

@@ -1,11 +1,10 @@
-// Configs by their place: a state, a context, and the first config whose first one is marked, or is not.
+// Configs by their place: a context, and the first config whose first one is marked, or is not.
 use grouping::inner::places::LEADERS;
 use grouping::inner::places::MARKS;
 use setcheck::inner::keys::KeyPlace;
 use setcheck::inner::places::CONFIG_WORDS;
 use setcheck::inner::places::CONTEXT;
 use setcheck::inner::places::FIRST_CONFIG;
-use setcheck::inner::places::STATE;
 use setcheck::inner::read::config_count;
 ghost use mathlib.Core.Path.{_≡_};
 ghost use Prim.Native.Nat.{_<_};
@@ -13,14 +12,6 @@ ghost use lib.ListN.{length};
 ghost use Rattle.sets.specs.Layout.{configAt, configCount, mostConfigs, setWordsLength};
 ghost use Rattle.grouping.specs.Marks.{Markable};
 ghost use Rattle.reasons.specs.Marked.{FirstMarked};
-
-// The state of a config.
-pub fn state_of(set: &[u32], place: usize) -> u32
-    requires { ⌜ (length (now set) ≡ setWordsLength) × (place < mostConfigs) ⌝ }
-    ensures { λ r. ⌜ r ≡ configAt (now (set .entry)) place .state ⌝ }
-{
-    set[FIRST_CONFIG + CONFIG_WORDS * place + STATE]
-}
 
 // The context of a config.
 pub fn context_of(set: &[u32], place: usize) -> u32

@@ -1,0 +1,29 @@
+-- Promised: why this verdict (request A6). "Prove that the reason given is true of the set, that no earlier reason held, and that the two together force
+-- the verdict." Nothing here has to be believed but what the statements say.
+use mathlib.Core.Path.{_≡_}
+use mathlib.Core.List.{List}
+use Prim.Native.Nat.{ℕ}
+use Rattle.sets.specs.Words.{setOf}
+use Rattle.groups.specs.Reason as Reasons
+use Rattle.groups.specs.Reason.{Reason, Holds, NoEarlier}
+use Rattle.verdicts.specs.Calls.{because, says, verdictCall}
+use Rattle.reasons.specs.Calls.{reasonWords, whyCall}
+use Rattle.reasons.specs.Sentences.{why-holds, why-first, why-verdict, why-words}
+
+-- w, v, z and o are the words lent as store, set, scratch and output; r is the reason answered
+module _ (w v z stops o : List ℕ) (r : Reason) (e : whyCall w v z stops o .reply ≡ because r) where
+  -- "the reason given is true of the set"
+  pub true-of-the-set : Holds stops (setOf v .configs) r
+  true-of-the-set = why-holds w v z stops o r e
+
+  -- "no earlier reason held"
+  pub none-earlier : NoEarlier stops (setOf v .configs) r
+  none-earlier = why-first w v z stops o r e
+
+  -- "the two together force the verdict"
+  pub forces : verdictCall w v z stops .reply ≡ says (Reasons.says r)
+  forces = why-verdict w v z stops o r e
+
+  -- the alternatives of a clash are written, rising, and before them their count; else zeros
+  pub written : whyCall w v z stops o .output ≡ reasonWords r
+  written = why-words w v z stops o r e
