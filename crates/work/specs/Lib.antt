@@ -1,0 +1,13 @@
+-- Merges counted (request A10). To believe: Counted. Theorems says what it is worth, Equations what code follows; the rest are laws.
+pub mod Counted
+pub mod After
+pub mod Kept
+pub mod Walked
+pub mod Served
+pub mod Depth
+pub mod Exchange
+pub mod Keys
+pub mod Hits
+pub mod Equations
+pub mod Theorems
+pub mod Examples
