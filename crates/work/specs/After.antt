@@ -13,7 +13,7 @@ use Rattle.arena.specs.Place.Laws.{ahead}
 use Rattle.arena.specs.Placed.{Grew, grew-refl, grew-trans, grew-length, grew-tree}
 use Rattle.arena.specs.Room.Laws.{room-grew}
 use Rattle.layout.specs.Ceilings.{Fits}
-use Rattle.work.specs.Counted.{Result, State, Outcome, done, refused, andThen, before}
+use Rattle.work.specs.Counted.{mostMerges, mostResults, Result, State, Outcome, done, refused, andThen, before}
 
 -- c stands for the merge of a and b
 pub record Right (m : Bool) (s : Store) (a b c : ℕ) : Type 0 where
@@ -32,8 +32,8 @@ pub record Good (t : State) : Type 0 where
   pub sound : Sound (t .store)
   pub fits : Fits (t .store)
   pub right : AllRight (t .store) (t .kept)
-  pub few : length (t .kept) ≤ 1024
-  pub within : t .count ≤ 65536
+  pub few : length (t .kept) ≤ mostResults
+  pub within : t .count ≤ mostMerges
 
 -- from t, with at most w merges, the step came to c and u, where x is meant
 pub record Went (X : Type 0) (t : State) (w : ℕ) (x : X × Store) (c : X) (u : State) : Type 0 where
@@ -45,7 +45,7 @@ pub record Went (X : Type 0) (t : State) (w : ℕ) (x : X × Store) (c : X) (u :
 
 -- refused from t, where w merges at most and the store s are meant: 6, s is above a ceiling; or 12, w is too much
 abbrev pub Refused : State → ℕ → Store → ℕ → Type 0
-Refused t w s n = ((n ≡ 6) × (Fits s → ⊥)) ⊎ ((n ≡ 12) × (65536 < t .count + w))
+Refused t w s n = ((n ≡ 6) × (Fits s → ⊥)) ⊎ ((n ≡ 12) × (mostMerges < t .count + w))
 
 abbrev pub After : (X : Type 0) → State → ℕ → X × Store → Outcome X → Type 0
 After X t w x (done c u) = Went X t w x c u

@@ -8,7 +8,8 @@ use lib.ListN.{length}
 use borrow.Author.Tests.{ltb-true}
 use Rattle.cases.specs.Numbers.{three}
 use Rattle.arena.specs.Store.{Node, end, dollar, push, Store, nodeAt, at, nowhere}
-use Rattle.work.specs.Counted.{State, Outcome, done, refused, andThen, recall, completed, interned, before, Merge, walk, made, begins, step, deep, counted}
+use Rattle.work.specs.Counted.{mostMerges, State, Outcome, done, refused, andThen, recall, completed, interned}
+use Rattle.work.specs.Counted.{before, Merge, walk, made, begins, step, deep, counted}
 use Rattle.work.specs.Counted.Laws.{walk-less, walk-greater, walk-equal}
 use Rattle.work.specs.After.{Good, Went, After}
 use Rattle.work.specs.Walked.{Serves, Listed, listed-next, listed-on}
@@ -46,7 +47,8 @@ module _ (m : Bool) (f : ℕ) (inner outer : Merge) (serves : Serves m f inner) 
         let less : p + o < f = omega (arith, x .rise .1, y .rise .1) in
         walk-equal inner t r p n q o k h
         ∙ then-agree ℕ Node t _ _ (inner t p o) _ _ (serves t p o v kp ko less)
-        (λ c u z. ap (before r c) (walk-agree u n k (suc r) (suc q) (z .good) (listed-next t u a lo r p n (z .grew) x) (listed-next t u b lo′ q o k (z .grew) y)))
+        (λ c u z. ap (before r c)
+        (walk-agree u n k (suc r) (suc q) (z .good) (listed-next t u a lo r p n (z .grew) x) (listed-next t u b lo′ q o k (z .grew) y)))
         ∙ ap (λ (i : Outcome ℕ). andThen ℕ Node i (λ c u. before r c (walk outer u n k))) (agree t p o v kp ko less)
         ∙ sym (walk-equal outer t r p n q o k h))
         (λ h. walk-greater inner t r p n q o k h
@@ -66,14 +68,14 @@ module _ (m : Bool) (f : ℕ) (inner outer : Merge) (serves : Serves m f inner) 
         | true ↦ done a t
         | false ↦ elim (recall m (min a b) (max a b) (t .kept)) [ at c ↦ done c t | nowhere ↦ x ]
       ])
-      (go (ltb (t .count) 65536) refl)
+      (go (ltb (t .count) mostMerges) refl)
     where
-      go : (l : Bool) → ltb (t .count) 65536 ≡ l
+      go : (l : Bool) → ltb (t .count) mostMerges ≡ l
           → _≡_ {A = Outcome ℕ} (elim l [ true ↦ andThen ℕ ℕ (made m inner (begins t) a b) (completed m a b) | false ↦ refused 12 ])
           (elim l [ true ↦ andThen ℕ ℕ (made m outer (begins t) a b) (completed m a b) | false ↦ refused 12 ])
       go true l =
           ap (λ (x : Outcome ℕ). andThen ℕ ℕ x (completed m a b))
-          (made-agree (begins t) a b (begins-good t v (ltb-true (t .count) 65536 l) .good) h k (omega arith))
+          (made-agree (begins t) a b (begins-good t v (ltb-true (t .count) mostMerges l) .good) h k (omega arith))
       go false l = refl
 
 pub deep-agree : (m : Bool) (f g : ℕ) → f ≤ g → Agree f (deep m f) (deep m g)
@@ -83,7 +85,8 @@ deep-agree m (suc f) zero h = absurd (omega arith)
 deep-agree m (suc f) (suc g) h = step-agree m f (deep m f) (deep m g) (deep-serves m f) (deep-agree m f g (omega arith))
 
 -- the merge is one step over merges
-pub counted-step : (m : Bool) (t : State) (a b : ℕ) → Good t → a < length (t .store) → b < length (t .store) → counted m t a b ≡ step m (counted m) t a b
+pub counted-step : (m : Bool) (t : State) (a b : ℕ) → Good t → a < length (t .store) → b < length (t .store)
+    → counted m t a b ≡ step m (counted m) t a b
 unfolding counted deep
 counted-step m t a b v h k =
     step-agree m (a + b) (deep m (a + b)) (counted m) (deep-serves m (a + b))

@@ -14,8 +14,8 @@ use Rattle.arena.specs.Placed.{intern-found, intern-made}
 use Rattle.layout.specs.Ceilings.{Fits}
 use Rattle.encoding.specs.Decide.{fits}
 use Rattle.encoding.specs.Decide.Laws.{fits-true, true-fits}
-use Rattle.work.specs.Counted.{Result, State, standing, Outcome, done, refused, andThen, recall, keep, completed, interned}
-use Rattle.work.specs.Counted.{before, Merge, walk, made, begins, step, counted}
+use Rattle.work.specs.Counted.{mostMerges, mostResults, Result, State, standing, Outcome, done, refused, andThen}
+use Rattle.work.specs.Counted.{recall, keep, completed, interned, before, Merge, walk, made, begins, step, counted}
 use Rattle.work.specs.Counted.Laws.{walk-equal}
 use Rattle.work.specs.After.{Good}
 use Rattle.work.specs.Depth.{counted-step}
@@ -35,11 +35,11 @@ module _ (m : Bool) (t : State) (a b : ℕ) (v : Good t) (left : a < length (t .
     module _ (missed : recall m (min a b) (max a b) (t .kept) ≡ nowhere) where
       pub merge-refused : t .count ≡ 65536 → counted m t a b ≡ refused 12
       unfolding step
-      merge-refused h = counted-step m t a b v left right ∙ rw (ne-eqb a b differ, step, missed, le-ltb (t .count) 65536 (omega arith))
+      merge-refused h = counted-step m t a b v left right ∙ rw (ne-eqb a b differ, step, missed, le-ltb (t .count) mostMerges (omega arith))
 
       pub merge-counts : t .count < 65536 → counted m t a b ≡ andThen ℕ ℕ (made m (counted m) (begins t) a b) (completed m a b)
       unfolding step
-      merge-counts h = counted-step m t a b v left right ∙ rw (ne-eqb a b differ, step, missed, lt-ltb (t .count) 65536 h)
+      merge-counts h = counted-step m t a b v left right ∙ rw (ne-eqb a b differ, step, missed, lt-ltb (t .count) mostMerges (omega arith))
 
 -- ---- a merge that counts: swallowed, or walked
 
@@ -118,8 +118,8 @@ module _ (n : Node) (t : State) (h : Full n) where
 module _ (r : Result) (k : List Result) where
   pub keep-more : length k < 1024 → keep r k ≡ r ∷ k
   unfolding keep
-  keep-more h = rw (lt-ltb (length k) 1024 h, keep)
+  keep-more h = rw (lt-ltb (length k) mostResults (omega arith), keep)
 
   pub keep-full : 1024 ≤ length k → keep r k ≡ k
   unfolding keep
-  keep-full h = rw (le-ltb (length k) 1024 h, keep)
+  keep-full h = rw (le-ltb (length k) mostResults (omega arith), keep)

@@ -11,7 +11,7 @@ use Rattle.arena.specs.Room.{room, pool}
 use Rattle.encoding.specs.Decide.{fits}
 use Rattle.work.specs.Counted.{Result, State, standing, Outcome, done, refused, andThen, recall, keep, completed, interned}
 use Rattle.work.specs.Counted.{before, walk, made, begins, step, deep, counted}
-use Rattle.work.specs.Hits.{result}
+use Rattle.work.specs.Counted.Laws.{result}
 
 -- the answer, how many contexts there are, how many results are kept, and the count; or the refusal
 pub data Told : Type 0 where

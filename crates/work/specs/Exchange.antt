@@ -8,7 +8,8 @@ use lib.Dec.{eqb, ltb}
 use borrow.Author.Tests.{ne-eqb}
 use Rattle.cases.specs.Numbers.{two, three}
 use Rattle.arena.specs.Store.{Node, end, dollar, push, nodeAt, Found, at, nowhere}
-use Rattle.work.specs.Counted.{State, Outcome, done, refused, andThen, recall, completed, interned, before, Merge, walk, made, begins, step, deep, counted}
+use Rattle.work.specs.Counted.{mostMerges, State, Outcome, done, refused, andThen, recall, completed, interned}
+use Rattle.work.specs.Counted.{before, Merge, walk, made, begins, step, deep, counted}
 use Rattle.work.specs.Counted.Laws.{walk-less, walk-greater, walk-equal}
 
 -- the sides can be exchanged
@@ -50,7 +51,8 @@ module _ (m : Bool) (inner : Merge) (even : Even inner) where
   pub made-even : Even (made m inner)
   unfolding made
   made-even t a b =
-      ap (λ (x : Bool). elim (m && x) [ true ↦ done 0 t | false ↦ andThen Node ℕ (walk inner t (nodeAt (t .store) a) (nodeAt (t .store) b)) interned ])
+      let w = walk inner t (nodeAt (t .store) a) (nodeAt (t .store) b) in
+      ap (λ (x : Bool). elim (m && x) [ true ↦ done 0 t | false ↦ andThen Node ℕ w interned ])
       (or-swap (eqb a 0) (eqb b 0))
       ∙ ap (λ (x : Outcome Node). elim (m && (eqb b 0 || eqb a 0)) [ true ↦ done 0 t | false ↦ andThen Node ℕ x interned ])
       (walk-even inner even t (nodeAt (t .store) a) (nodeAt (t .store) b))
@@ -59,7 +61,8 @@ module _ (m : Bool) (inner : Merge) (even : Even inner) where
   unfolding completed
   completed-even a b c t = rw (min-comm a b, max-comm a b)
 
-  new-even : (t : State) (a b : ℕ) → andThen ℕ ℕ (made m inner (begins t) a b) (completed m a b) ≡ andThen ℕ ℕ (made m inner (begins t) b a) (completed m b a)
+  new-even : (t : State) (a b : ℕ)
+      → andThen ℕ ℕ (made m inner (begins t) a b) (completed m a b) ≡ andThen ℕ ℕ (made m inner (begins t) b a) (completed m b a)
   new-even t a b =
       ap (λ (x : Outcome ℕ). andThen ℕ ℕ x (completed m a b)) (made-even (begins t) a b)
       ∙ then-same ℕ ℕ (made m inner (begins t) b a) _ _ (completed-even a b)
@@ -75,7 +78,7 @@ module _ (m : Bool) (inner : Merge) (even : Even inner) where
       ∙ ap (new (recall m (min b a) (max b a) (t .kept))) (new-even t a b)))
     where
       new : Found → Outcome ℕ → Outcome ℕ
-      new o x = elim o [ at c ↦ done c t | nowhere ↦ elim (ltb (t .count) 65536) [ true ↦ x | false ↦ refused 12 ] ]
+      new o x = elim o [ at c ↦ done c t | nowhere ↦ elim (ltb (t .count) mostMerges) [ true ↦ x | false ↦ refused 12 ] ]
 
 pub deep-even : (m : Bool) (f : ℕ) → Even (deep m f)
 unfolding deep

@@ -9,12 +9,9 @@ use borrow.Author.Tests.{eq-eqb}
 use Rattle.arena.specs.Store.{Found, at, nowhere}
 use Rattle.arena.specs.Trees.{at-inj, at-nowhere}
 use Rattle.work.specs.Counted.{Result, recall}
-use Rattle.work.specs.Counted.Laws.{test}
+use Rattle.work.specs.Counted.Laws.{result, test}
 use Rattle.work.specs.Kept.{key-is}
 use Rattle.work.specs.Keys.{Distinct}
-
-abbrev pub result : Bool → ℕ → ℕ → ℕ → Result
-result m a b c = record { kind = m; smaller = a; larger = b; context = c }
 
 -- the result is one of those kept
 abbrev pub In : Result → List Result → Type 0

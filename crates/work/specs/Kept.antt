@@ -15,8 +15,8 @@ use Rattle.arena.specs.Trees.{at-inj, at-nowhere, tree-canon}
 use Rattle.arena.specs.Place.{mergeS}
 use Rattle.arena.specs.Placed.{Grew, grew-refl, grew-length, grew-tree, Holds}
 use Rattle.arena.specs.Steps.{merge-holds, merge-grew, merge-known, merge-sides}
-use Rattle.work.specs.Counted.{Result, State, standing, recall, keep, completed}
-use Rattle.work.specs.Counted.Laws.{test, by-sides}
+use Rattle.work.specs.Counted.{mostResults, Result, State, recall, keep, completed}
+use Rattle.work.specs.Counted.Laws.{result, test, by-sides}
 use Rattle.work.specs.After.{Right, AllRight, Good, After}
 
 -- ---- what is found is right
@@ -56,13 +56,15 @@ pub hit : (m : Bool) (s : Store) → Sound s → (a b : ℕ) (k : List Result) (
     → recall m (min a b) (max a b) k ≡ at c → mergeS m s a b ≡ (c, s)
 hit m s w a b k c h j v e =
     let r = recall-right m s (min a b) (max a b) k c v e in
-    let q : mergeS m s (min a b) (max a b) ≡ mergeS m s a b = by-sides (λ x y. mergeS m s x y ≡ mergeS m s a b) a b refl (merge-sides m s w b a j h) in
+    let q : mergeS m s (min a b) (max a b) ≡ mergeS m s a b =
+    by-sides (λ x y. mergeS m s x y ≡ mergeS m s a b) a b refl (merge-sides m s w b a j h) in
     sym q ∙ merge-known m s w (min a b) (max a b) (r .left) (r .right) c (r .known) (r .is)
 
 -- ---- what is kept is right
 
 -- what a merge answers is right, under its sides in order
-pub answer-right : (m : Bool) (s u : Store) → Sound s → (a b c : ℕ) → a < length s → b < length s → mergeS m s a b ≡ (c, u) → Right m u (min a b) (max a b) c
+pub answer-right : (m : Bool) (s u : Store) → Sound s → (a b c : ℕ) → a < length s → b < length s → mergeS m s a b ≡ (c, u)
+    → Right m u (min a b) (max a b) c
 answer-right m s u w a b c h k e =
     let g : Grew s u = rw e at (merge-grew m s w a b h k) in
     let v : Holds u c _ = rw e at (merge-holds m s w a b h k) in
@@ -75,20 +77,20 @@ answer-right m s u w a b c h k e =
     } in
     by-sides (λ x y. Right m u x y c) a b r (right-swap m u (v .sound) a b c r)
 
--- one more keeps them right, and no more than 1,024
-keep-right : (s : Store) (r : Result) (k : List Result) → Right (r .kind) s (r .smaller) (r .larger) (r .context) → AllRight s k → length k ≤ 1024
-    → AllRight s (keep r k) × (length (keep r k) ≤ 1024)
+-- one more keeps them right, and no more than are to be kept
+keep-right : (s : Store) (r : Result) (k : List Result) → Right (r .kind) s (r .smaller) (r .larger) (r .context)
+    → AllRight s k → length k ≤ mostResults → AllRight s (keep r k) × (length (keep r k) ≤ mostResults)
 unfolding keep
 keep-right s r k x v h =
-    test (λ (l : List Result). AllRight s l × (length l ≤ 1024)) (ltb (length k) 1024) _ _
-    (λ q. ((x, v), omega (arith, ltb-true (length k) 1024 q)))
+    test (λ (l : List Result). AllRight s l × (length l ≤ mostResults)) (ltb (length k) mostResults) _ _
+    (λ q. ((x, v), omega (arith, ltb-true (length k) mostResults q)))
     (λ q. (v, h))
 
 pub completed-after : (m : Bool) (a b c : ℕ) (t : State) → Good t → Right m (t .store) (min a b) (max a b) c → (x : ℕ × Store) → x ≡ (c, t .store)
     → After ℕ t 0 x (completed m a b c t)
 unfolding completed
 completed-after m a b c t v r x e =
-    let k = keep-right (t .store) (record { kind = m; smaller = min a b; larger = max a b; context = c }) (t .kept) r (v .right) (v .few) in
+    let k = keep-right (t .store) (result m (min a b) (max a b) c) (t .kept) r (v .right) (v .few) in
     record {
       is = e;
       good = record { sound = v .sound; fits = v .fits; right = k .0; few = k .1; within = v .within };

@@ -1,6 +1,6 @@
 -- Results are kept once for each key, and stay: so it does not matter in which order they are looked through. Nothing here has to be believed.
 use mathlib.Core.Path.{_≡_, refl, sym, ap, _∙_}
-use mathlib.Core.Bool.{Bool, true, _&&_, _||_, Bool·beq}
+use mathlib.Core.Bool.{Bool, _&&_, _||_, Bool·beq}
 use mathlib.Core.List.{List, [], _∷_, _++_, append-assoc}
 use Prim.Native.Nat.{ℕ, zero, suc, _<_, _≤_, _+_, min, max}
 use native.Mathlib.Omega.{arith}
@@ -11,9 +11,9 @@ use Rattle.cases.specs.Numbers.{three}
 use Rattle.arena.specs.Store.{Node, end, dollar, push, Store, nodeAt, Found, nowhere}
 use Rattle.arena.specs.Place.{intern}
 use Rattle.encoding.specs.Decide.{fits}
-use Rattle.work.specs.Counted.{Result, State, Outcome, done, refused, andThen, recall, keep, completed, interned}
-use Rattle.work.specs.Counted.{before, Merge, walk, made, begins, step, deep, counted}
-use Rattle.work.specs.Counted.Laws.{test, found, walk-less, walk-greater, walk-equal}
+use Rattle.work.specs.Counted.{mostMerges, mostResults, Result, State, standing, Outcome, done, refused, andThen}
+use Rattle.work.specs.Counted.{recall, keep, completed, interned, before, Merge, walk, made, begins, step, deep, counted}
+use Rattle.work.specs.Counted.Laws.{result, test, found, walk-less, walk-greater, walk-equal}
 use Rattle.work.specs.After.{Good, Went, After}
 use Rattle.work.specs.Kept.{key-is}
 use Rattle.work.specs.Walked.{Serves, Listed, listed-next, listed-on, walk-after}
@@ -52,7 +52,8 @@ tidy-on X f g h t u (done c z) i j a b = onward f g h t u z i j a b
 tidy-on X f g h t u (refused n) i j a b = tt
 
 tidy-then : (X Y : Type 0) (f g h : ℕ) (t : State) (w : ℕ) (x : X × Store) (o : Outcome X) (next : X → State → Outcome Y) → f ≤ h → g ≤ h
-    → After X t w x o → Tidy X f t o → ((c : X) (u : State) → Went X t w x c u → Keeps f t u → Tidy Y g u (next c u)) → Tidy Y h t (andThen X Y o next)
+    → After X t w x o → Tidy X f t o → ((c : X) (u : State) → Went X t w x c u → Keeps f t u → Tidy Y g u (next c u))
+    → Tidy Y h t (andThen X Y o next)
 unfolding andThen
 tidy-then X Y f g h t w x (done c u) next i j a b n = tidy-on Y f g h t u (next c u) i j b (n c u a b)
 tidy-then X Y f g h t w x (refused n) next i j a b k = tt
@@ -74,8 +75,8 @@ recall-other m x y r k n =
 tidy-completed : (m : Bool) (a b c : ℕ) (t : State) → recall m (min a b) (max a b) (t .kept) ≡ nowhere → Tidy ℕ (suc (a + b)) t (completed m a b c t)
 unfolding completed keep
 tidy-completed m a b c t e =
-    let r : Result = record { kind = m; smaller = min a b; larger = max a b; context = c } in
-    test (λ (k : List Result). Keeps (suc (a + b)) t (record { store = t .store; kept = k; count = t .count })) (ltb (length (t .kept)) 1024) _ _
+    let r = result m (min a b) (max a b) c in
+    test (λ (k : List Result). Keeps (suc (a + b)) t (standing (t .store) k (t .count))) (ltb (length (t .kept)) mostResults) _ _
     (λ q. record { front = (r ∷ [], refl); distinct = λ d. (e, d); same = λ k x y h. recall-other k x y r (t .kept) (λ i. omega arith) })
     (λ q. stay (suc (a + b)) t t refl)
 
@@ -130,7 +131,7 @@ module _ (m : Bool) (f : ℕ) (inner : Merge) (serves : Serves m f inner) (tidy 
       (tidy-walk a b (omega arith) t (nodeAt s a) (nodeAt s b) 0 0 v x y)
       (λ n u z _. tidy-interned (a + b) n u))
 
-  tidy-new : (t : State) (a b : ℕ) → Good t → a < length (t .store) → b < length (t .store) → a + b ≤ f → t .count < 65536
+  tidy-new : (t : State) (a b : ℕ) → Good t → a < length (t .store) → b < length (t .store) → a + b ≤ f → t .count < mostMerges
       → recall m (min a b) (max a b) (t .kept) ≡ nowhere → Tidy ℕ (suc (a + b)) t (andThen ℕ ℕ (made m inner (begins t) a b) (completed m a b))
   unfolding begins
   tidy-new t a b v h k small less missed =
@@ -149,8 +150,8 @@ module _ (m : Bool) (f : ℕ) (inner : Merge) (serves : Serves m f inner) (tidy 
       (λ q. stay (suc (a + b)) t t refl)
       (λ q. found (Tidy ℕ (suc (a + b)) t) (recall m (min a b) (max a b) (t .kept)) _ _
       (λ c e. stay (suc (a + b)) t t refl)
-      (λ e. test (Tidy ℕ (suc (a + b)) t) (ltb (t .count) 65536) _ _
-      (λ l. tidy-new t a b v h k (omega arith) (ltb-true (t .count) 65536 l) e)
+      (λ e. test (Tidy ℕ (suc (a + b)) t) (ltb (t .count) mostMerges) _ _
+      (λ l. tidy-new t a b v h k (omega arith) (ltb-true (t .count) mostMerges l) e)
       (λ l. tt)))
 
 deep-tidy : (m : Bool) (f : ℕ) → TidyUpTo f (deep m f)
@@ -158,6 +159,7 @@ unfolding deep
 deep-tidy m zero = λ t a b v h k small. absurd (omega arith)
 deep-tidy m (suc f) = tidy-step m f (deep m f) (deep-serves m f) (deep-tidy m f)
 
-pub counted-tidy : (m : Bool) (t : State) (a b : ℕ) → Good t → a < length (t .store) → b < length (t .store) → Tidy ℕ (suc (a + b)) t (counted m t a b)
+pub counted-tidy : (m : Bool) (t : State) (a b : ℕ) → Good t → a < length (t .store) → b < length (t .store)
+    → Tidy ℕ (suc (a + b)) t (counted m t a b)
 unfolding counted
 counted-tidy m t a b v h k = deep-tidy m (suc (a + b)) t a b v h k (omega arith)

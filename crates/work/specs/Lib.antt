@@ -1,5 +1,6 @@
--- Merges counted (request A10). To believe: Counted. Theorems says what it is worth, Equations what code follows; the rest are laws.
+-- Merges counted (request A10). To believe: Counted. Theorems says what it is worth, Equations and Heads what code follows; the rest are laws.
 pub mod Counted
+pub mod Examples
 pub mod After
 pub mod Kept
 pub mod Walked
@@ -9,5 +10,5 @@ pub mod Exchange
 pub mod Keys
 pub mod Hits
 pub mod Equations
+pub mod Heads
 pub mod Theorems
-pub mod Examples

@@ -1,6 +1,6 @@
 -- A merge comes to what is meant, if the inner merges do: and so each merge that is deep enough. Nothing here has to be believed.
-use mathlib.Core.Path.{_≡_, refl, sym, _∙_}
-use mathlib.Core.Logic.{_⊎_, inl, inr}
+use mathlib.Core.Path.{_≡_, refl}
+use mathlib.Core.Logic.{inl, inr}
 use mathlib.Core.Bool.{Bool, true, false, _&&_, _||_, false≢true}
 use Prim.Native.Nat.{ℕ, zero, suc, _<_, _≤_, _+_, min, max}
 use native.Mathlib.Omega.{arith}
@@ -14,10 +14,9 @@ use Rattle.arena.specs.Trees.{node-sound, tree-node}
 use Rattle.arena.specs.Place.{intern, mergeS}
 use Rattle.arena.specs.Placed.{Grew, grew-refl, intern-grew}
 use Rattle.arena.specs.Steps.{mergeN, merge-holds, merge-same, merge-nodes, merge-root-left, merge-root-right}
-use Rattle.layout.specs.Ceilings.{Fits}
 use Rattle.encoding.specs.Decide.{fits}
 use Rattle.encoding.specs.Decide.Laws.{fits-true, true-fits}
-use Rattle.work.specs.Counted.{State, andThen, recall, completed, interned, Merge, walk, made, begins, step, deep}
+use Rattle.work.specs.Counted.{mostMerges, State, andThen, recall, completed, interned, Merge, walk, made, begins, step, deep}
 use Rattle.work.specs.Counted.Laws.{test, found}
 use Rattle.work.specs.After.{Good, Went, After, all-grew, seen-from, and-then, and-stay}
 use Rattle.work.specs.Kept.{hit, answer-right, completed-after}
@@ -80,7 +79,7 @@ module _ (m : Bool) (f : ℕ) (inner : Merge) (serves : Serves m f inner) where
 
 -- ---- a merge
 
-pub begins-good : (t : State) → Good t → t .count < 65536 → Went ℕ t 1 (0, t .store) 0 (begins t)
+pub begins-good : (t : State) → Good t → t .count < mostMerges → Went ℕ t 1 (0, t .store) 0 (begins t)
 unfolding begins
 begins-good t v h = record {
   is = refl;
@@ -91,7 +90,7 @@ begins-good t v h = record {
 }
 
 module _ (m : Bool) (f : ℕ) (inner : Merge) (serves : Serves m f inner) where
-  new-after : (t : State) (a b : ℕ) → Good t → a < length (t .store) → b < length (t .store) → a + b ≤ f → t .count < 65536
+  new-after : (t : State) (a b : ℕ) → Good t → a < length (t .store) → b < length (t .store) → a + b ≤ f → t .count < mostMerges
       → After ℕ t (suc (weight (tree (t .store) a))) (mergeS m (t .store) a b) (andThen ℕ ℕ (made m inner (begins t) a b) (completed m a b))
   unfolding begins
   new-after t a b v h k small less =
@@ -113,9 +112,9 @@ module _ (m : Bool) (f : ℕ) (inner : Merge) (serves : Serves m f inner) where
       (λ q. and-stay ℕ t _ _ a v (merge-same m s (v .sound) a b h k (eqb-true a b q)))
       (λ q. found P (recall m (min a b) (max a b) (t .kept)) _ _
       (λ c e. and-stay ℕ t _ _ c v (hit m s (v .sound) a b (t .kept) c h k (v .right) e))
-      (λ e. test P (ltb (t .count) 65536) _ _
-      (λ l. new-after t a b v h k (omega arith) (ltb-true (t .count) 65536 l))
-      (λ l. let z : 65536 ≤ t .count = ltb-false (t .count) 65536 l in inr (refl, omega arith))))
+      (λ e. test P (ltb (t .count) mostMerges) _ _
+      (λ l. new-after t a b v h k (omega arith) (ltb-true (t .count) mostMerges l))
+      (λ l. let z : mostMerges ≤ t .count = ltb-false (t .count) mostMerges l in inr (refl, omega arith))))
 
 pub deep-serves : (m : Bool) (f : ℕ) → Serves m f (deep m f)
 unfolding deep

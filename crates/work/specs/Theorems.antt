@@ -1,5 +1,5 @@
 -- What the counted merge is worth: a reader's list. Nothing here has to be believed.
-use mathlib.Core.Path.{_≡_, refl, sym, _∙_}
+use mathlib.Core.Path.{_≡_, refl, _∙_}
 use mathlib.Core.Logic.{_↔_, _⊎_, inl, inr}
 use mathlib.Core.Bool.{Bool}
 use mathlib.Core.List.{List, [], _++_}
@@ -11,7 +11,7 @@ use Rattle.arena.specs.Soundness.{Sound}
 use Rattle.arena.specs.Place.{mergeS}
 use Rattle.layout.specs.Ceilings.{Fits}
 use Rattle.work.specs.Counted.{Result, State, standing, Outcome, done, refused, step, counted, counting}
-use Rattle.work.specs.After.{Good, Went, Refused, After}
+use Rattle.work.specs.After.{Good, Refused, After}
 use Rattle.work.specs.Walked.{weight}
 use Rattle.work.specs.Depth.{counted-step, counted-serves}
 use Rattle.work.specs.Exchange.{counted-even}
@@ -29,7 +29,8 @@ module _ (m : Bool) (t : State) (a b : ℕ) (good : Good t) (left : a < length (
   came = counted-serves m (suc (a + b)) t a b good left right (omega arith)
 
   -- results that are kept stay as they are, and no key is kept twice
-  pub kept-stay : (c : ℕ) (u : State) → counted m t a b ≡ done c u → ((k : List Result) × (u .kept ≡ k ++ t .kept)) × (Distinct (t .kept) → Distinct (u .kept))
+  pub kept-stay : (c : ℕ) (u : State) → counted m t a b ≡ done c u
+      → ((k : List Result) × (u .kept ≡ k ++ t .kept)) × (Distinct (t .kept) → Distinct (u .kept))
   kept-stay c u e =
       let v : Keeps (suc (a + b)) t u = rw e at (counted-tidy m t a b good left right) in
       (v .front, v .distinct)
@@ -48,13 +49,18 @@ module _ (m : Bool) (s : Store) (a b : ℕ) (sound : Sound s) (fits : Fits s) (l
   pub answer-is : (c : ℕ) (u : State) → counting m s a b ≡ done c u → mergeS m s a b ≡ (c, u .store)
   answer-is c u e = ended (done c u) e .is
 
-  -- B. The count of an answer is never above 65,536, and no more than 1,024 results are kept, each under a key of its own.
+  -- B. The count of an answer is never above 65,536;
   pub count-within : (c : ℕ) (u : State) → counting m s a b ≡ done c u → u .count ≤ 65536
-  count-within c u e = ended (done c u) e .good .within
+  count-within c u e = omega (arith, ended (done c u) e .good .within)
 
+  -- nor above one more than the left side's entries, counted at each depth;
+  pub count-at-most : (c : ℕ) (u : State) → counting m s a b ≡ done c u → u .count ≤ suc (weight (tree s a))
+  count-at-most c u e = omega (arith, ended (done c u) e .spent)
+
+  -- and no more than 1,024 results are kept, each under a key of its own.
   pub kept-within : (c : ℕ) (u : State) → counting m s a b ≡ done c u → (length (u .kept) ≤ 1024) × Distinct (u .kept)
   unfolding counting
-  kept-within c u e = (ended (done c u) e .good .few, kept-stay m (standing s [] 0) a b begun left right c u e .1 tt)
+  kept-within c u e = (omega (arith, ended (done c u) e .good .few), kept-stay m (standing s [] 0) a b begun left right c u e .1 tt)
 
   -- C. An answer is within the ceilings of contexts and entries.
   pub answer-fits : (c : ℕ) (u : State) → counting m s a b ≡ done c u → Fits (mergeS m s a b .1)
@@ -99,5 +105,6 @@ pub sides-exchanged : (m : Bool) (s : Store) (a b : ℕ) → counting m s a b �
 unfolding counting
 sides-exchanged m s a b = counted-even m (standing s [] 0) a b
 
-pub light-right : (m : Bool) (s : Store) (a b : ℕ) → Sound s → Fits s → a < length s → b < length s → weight (tree s b) < 65536 → counting m s a b ≡ refused 12 → ⊥
+pub light-right : (m : Bool) (s : Store) (a b : ℕ) → Sound s → Fits s → a < length s → b < length s
+    → weight (tree s b) < 65536 → counting m s a b ≡ refused 12 → ⊥
 light-right m s a b w f left right h e = light-left m s b a w f right left h (sides-exchanged m s b a ∙ e)

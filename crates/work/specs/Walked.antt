@@ -55,7 +55,8 @@ module _ (m : Bool) (f : ℕ) (inner : Merge) (serves : Serves m f inner) (a b :
   Walks t n k = After Node t (weight (treeOf (tree (t .store)) n)) (mergeN m (t .store) n k) (walk inner t n k)
 
   -- a state on both sides: the inner merge, and then the rest
-  walk-both : (t : State) (r p : ℕ) (n : Node) (q o : ℕ) (k : Node) (lo lo′ : ℕ) → r ≡ q → Good t → Listed t a lo (push r p n) → Listed t b lo′ (push q o k)
+  walk-both : (t : State) (r p : ℕ) (n : Node) (q o : ℕ) (k : Node) (lo lo′ : ℕ) → r ≡ q → Good t
+      → Listed t a lo (push r p n) → Listed t b lo′ (push q o k)
       → ((u : State) → Good u → Grew (t .store) (u .store) → Walks u n k)
       → Walks t (push r p n) (push q o k)
   unfolding treeOf weight

@@ -1,13 +1,16 @@
 -- The tests of the definition taken apart: the ways in which two states can stand, and the sides in order. Nothing here has to be believed.
 use mathlib.Core.Path.{_≡_, refl}
 use mathlib.Core.Bool.{Bool, true, false}
-use Prim.Native.Nat.{ℕ, _<_, _≤_, _+_, min, max}
+use Prim.Native.Nat.{ℕ, _<_, _≤_, min, max}
 use native.Mathlib.Omega.{arith}
 use native.Mathlib.Nat.{min-eq-left, min-eq-right, max-eq-left, max-eq-right}
 use borrow.Author.Tests.{lt-ltb, le-ltb}
 use Rattle.cases.specs.Numbers.{below?}
 use Rattle.arena.specs.Store.{Node, push, Found, at, nowhere}
-use Rattle.work.specs.Counted.{State, andThen, before, Merge, walk}
+use Rattle.work.specs.Counted.{Result, State, andThen, before, Merge, walk}
+
+abbrev pub result : Bool → ℕ → ℕ → ℕ → Result
+result m a b c = record { kind = m; smaller = a; larger = b; context = c }
 
 -- a test, and a place that is looked up, for a proof by their answers
 pub test {ℓ} : {X : Type 0} (P : X → Type ℓ) (t : Bool) (x y : X) → (t ≡ true → P x) → (t ≡ false → P y) → P (elim t [ true ↦ x | false ↦ y ])
