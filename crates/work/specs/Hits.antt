@@ -46,6 +46,21 @@ recall-from m a b c (x ∷ k) =
     (λ q e. let i = key-is m a b x q in inl (rw (i .0, i .1, i .2, ← at-inj (x .context) c e)))
     (λ q e. inr (recall-from m a b c k e))
 
+-- found or not
+pub found? {ℓ} : {X : Type ℓ} (m : Bool) (a b : ℕ) (k : List Result) → ((c : ℕ) → recall m a b k ≡ at c → X) → (recall m a b k ≡ nowhere → X) → X
+found? {X = X} m a b k hit miss = go (recall m a b k) refl
+  where
+    go : (f : Found) → recall m a b k ≡ f → X
+    go (at c) e = hit c e
+    go nowhere e = miss e
+
 -- a hit exactly if the result was kept
 pub hit-exactly : (m : Bool) (a b c : ℕ) (k : List Result) → Distinct k → (recall m a b k ≡ at c) ↔ In (result m a b c) k
 hit-exactly m a b c k d = (recall-from m a b c k, recall-in (result m a b c) k d)
+
+-- and none exactly if no result was kept for that merge
+pub miss-exactly : (m : Bool) (a b : ℕ) (k : List Result) → Distinct k → (recall m a b k ≡ nowhere) ↔ ((c : ℕ) → In (result m a b c) k → ⊥)
+miss-exactly m a b k d = (
+  λ e c i. at-nowhere c (sym (recall-in (result m a b c) k d i) ∙ e),
+  λ none. found? m a b k (λ c e. absurd (none c (recall-from m a b c k e))) (λ e. e),
+)

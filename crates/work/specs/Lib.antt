@@ -1,4 +1,4 @@
--- Merges counted (request A10). To believe: Counted. Theorems says what it is worth, Equations and Heads what code follows; the rest are laws.
+-- Merges counted. To believe: Counted. Theorems says what it is worth; Equations, Heads and KeptWords what code follows; the rest are laws.
 pub mod Counted
 pub mod Examples
 pub mod After
@@ -11,4 +11,5 @@ pub mod Keys
 pub mod Hits
 pub mod Equations
 pub mod Heads
+pub mod KeptWords
 pub mod Theorems
