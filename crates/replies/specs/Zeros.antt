@@ -13,7 +13,7 @@ use Rattle.store.specs.Checks.Laws.{absent, unless-first, unless-next}
 use Rattle.store.specs.Calls.{zeros, asked}
 use Rattle.store.specs.Calls.Laws.{zero-after}
 use Rattle.sets.specs.Layout.{setWordsLength}
-use Rattle.sets.specs.Calls.{SetReply, SetLeft, setLeft, refusal, lentLengths, lentChecks, addChecks, freshSetCall, addCall, closeCall}
+use Rattle.sets.specs.Calls.{SetLeft, refusal, lentLengths, lentChecks, addChecks, freshSetCall, addCall, closeCall}
 use Rattle.verdicts.specs.Calls.{VerdictLeft, readRefusal, readCall}
 use Rattle.figures.specs.Calls.{figuresCall}
 use Rattle.interning.specs.SingletonCall.{singletonChecks, singletonCall}

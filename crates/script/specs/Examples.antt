@@ -30,7 +30,7 @@ use Rattle.groups.specs.Lists.{which}
 use Rattle.groups.specs.Groups.{insert, rising, altsOf, together, firsts, subset, groups}
 use Rattle.groups.specs.Answers.{none, only, many, agree, smallest, singleViableAlt, uniqueAlt, stopped, justOne}
 use Rattle.groups.specs.Answers.{verdict as verdictOf}
-use Rattle.verdicts.specs.Calls.{VerdictReply, Summary, summary, readRefusal, readCall}
+use Rattle.verdicts.specs.Calls.{VerdictReply, summary, readRefusal, readCall}
 use Rattle.figures.specs.Calls.{figuresCall}
 use Rattle.format.specs.Bytes.{u16At, u32At, u64At, wordsAt}
 use Rattle.format.specs.Payloads.{payloads, payloadOf, accepts}

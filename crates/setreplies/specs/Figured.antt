@@ -1,7 +1,7 @@
 -- The figures of the set: what is laid out and left, from what the parts leave. Nothing here has to be believed.
 use mathlib.Core.Path.{_≡_, refl, sym, ap, _∙_}
 use mathlib.Core.Bool.{Bool}
-use mathlib.Core.List.{List, [], _∷_, _++_}
+use mathlib.Core.List.{List, [], _∷_}
 use Prim.Native.Nat.{ℕ, _+_, _-_, _<_, _≤_}
 use native.Mathlib.Omega.{arith}
 use lib.ListN.{length, getD, take, drop, length-drop}
@@ -9,7 +9,7 @@ use lib.Seq.{take-all}
 use Rattle.words.specs.Refusals.{number}
 use Rattle.words.specs.declared.refusals.Refusal.{Refusal}
 use Rattle.groups.specs.Answers.{Answer}
-use Rattle.verdicts.specs.Calls.{VerdictReply, VerdictLeft, verdictLeft, summary}
+use Rattle.verdicts.specs.Calls.{VerdictLeft, verdictLeft, summary}
 use Rattle.figures.specs.Calls.{figuresCall}
 use Rattle.figures.specs.Replies.{told, summaryOf}
 use Rattle.figures.specs.declared.answers.Figures.{Figures}

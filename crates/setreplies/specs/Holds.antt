@@ -4,11 +4,11 @@ use mathlib.Core.List.{List, [], _∷_, _++_}
 use Prim.Native.Nat.{ℕ, zero, suc, _+_, _*_, _-_, _<_, _≤_}
 use native.Mathlib.Omega.{arith}
 use native.Mathlib.Numerals.{add-one}
-use lib.ListN.{length, set, replicate, take, drop, length-set, length-append}
+use lib.ListN.{length, set, replicate, take, drop}
 use lib.Seq.{sets-eq}
 use borrow.Author.Tests.{lt-ltb, le-ltb}
 use Rattle.layout.specs.Layout.{blank}
-use Rattle.store.specs.Checks.{given, unless}
+use Rattle.store.specs.Checks.{unless}
 use Rattle.verdicts.specs.Calls.{mostStops}
 use Rattle.format.specs.Bytes.{u32At, wordsAt}
 use Rattle.format.specs.Bytes.Laws.{length-words, words-more}

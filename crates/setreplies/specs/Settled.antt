@@ -1,5 +1,5 @@
 -- A new set, a config more, a set closed: what is laid out and left, from what the parts leave. Nothing here has to be believed.
-use mathlib.Core.Path.{_≡_, refl, sym, ap, _∙_}
+use mathlib.Core.Path.{_≡_, refl}
 use mathlib.Core.Bool.{Bool}
 use mathlib.Core.List.{List, []}
 use Prim.Native.Nat.{ℕ}

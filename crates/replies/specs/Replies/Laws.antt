@@ -1,5 +1,5 @@
 -- What a call leaves, from what its parts leave. Nothing here has to be believed.
-use mathlib.Core.Path.{_≡_, refl, sym, ap, _∙_}
+use mathlib.Core.Path.{_≡_, refl, sym, _∙_}
 use mathlib.Core.List.{List, []}
 use Prim.Native.Nat.{ℕ}
 use lib.ListN.{length, replicate}

@@ -3,7 +3,7 @@ use borrow.Author.Needs.{needs}
 use native.Mathlib.Omega.{arith}
 use mathlib.Core.Path.{sym, ap, _∙_}
 use mathlib.Core.List.{[]}
-use Rattle.format.specs.Answers.{reading, callIn, Placed}
+use Rattle.format.specs.Answers.{reading, callIn}
 use Rattle.lines.specs.Lines.{refusalLine}
 use Rattle.lines.specs.Laid.Laws.{wrote-none, wrote-length}
 use Rattle.replies.specs.Replies.{lent}

@@ -1,9 +1,9 @@
 -- The number, then state by state.
 use borrow.Author.Needs.{needs}
 use native.Mathlib.Omega.{arith}
-use mathlib.Core.Path.{_≡_, sym, ap, _∙_}
-use Prim.Native.Nat.{ℕ, _+_, _*_, _-_, _≤_}
-use lib.ListN.{length, replicate, set, length-set}
+use mathlib.Core.Path.{_≡_, ap, _∙_}
+use Prim.Native.Nat.{ℕ, _-_, _≤_}
+use lib.ListN.{length, replicate, length-set}
 use Rattle.setreplies.specs.Holds.{Held, held-start, held-more, held-all}
 use Rattle.setreplies.proofs.inner.stops.fill.Statement.{statement}
 use Rattle.setreplies.proofs.inner.stops.fill.Tie as tie
