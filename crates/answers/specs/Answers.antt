@@ -6,42 +6,24 @@ use Rattle.store.specs.Calls.{Reply, refused, done, shown, context, count, stat
 use Rattle.answers.specs.declared.structs.Answer.{Answer}
 use Rattle.answers.specs.declared.structs.EntryAnswer.{EntryAnswer}
 
--- ---- a refusal's number, or 0; then what was asked for, or 0
+abbrev pub entry : ℕ → ℕ → ℕ → EntryAnswer
+entry n f v = record { refusal = n; found = f; value = v }
 
-unfoldable pub numberOf : Reply → ℕ
-numberOf (refused n) = n
-numberOf done = 0
-numberOf shown = 0
-numberOf (context c) = 0
-numberOf (count n) = 0
-numberOf (state s) = 0
-numberOf (holds b) = 0
-numberOf none = 0
+-- a refusal's number, or 0; 1 where there is an entry, or 0; what was asked for, or 0
+unfoldable pub entryOf : Reply → EntryAnswer
+entryOf (refused n) = entry n 0 0
+entryOf done = entry 0 0 0
+entryOf shown = entry 0 0 0
+entryOf (context c) = entry 0 1 c
+entryOf (count n) = entry 0 1 n
+entryOf (state s) = entry 0 1 s
+entryOf (holds true) = entry 0 0 1
+entryOf (holds false) = entry 0 0 0
+entryOf none = entry 0 0 0
 
-unfoldable pub valueOf : Reply → ℕ
-valueOf (refused n) = 0
-valueOf done = 0
-valueOf shown = 0
-valueOf (context c) = c
-valueOf (count n) = n
-valueOf (state s) = s
-valueOf (holds true) = 1
-valueOf (holds false) = 0
-valueOf none = 0
-
--- 1 where there is an entry, and 0 where there is none
-unfoldable pub foundOf : Reply → ℕ
-foundOf (refused n) = 0
-foundOf done = 0
-foundOf shown = 0
-foundOf (context c) = 1
-foundOf (count n) = 1
-foundOf (state s) = 1
-foundOf (holds b) = 0
-foundOf none = 0
-
+-- where no entry is asked for, the first and the last of the three
 abbrev pub answerOf : Reply → Answer
-answerOf r = record { refusal = numberOf r; value = valueOf r }
+answerOf r = record { refusal = entryOf r .refusal; value = entryOf r .value }
 
-abbrev pub entryOf : Reply → EntryAnswer
-entryOf r = record { refusal = numberOf r; found = foundOf r; value = valueOf r }
+abbrev pub numberOf : Reply → ℕ
+numberOf r = entryOf r .refusal

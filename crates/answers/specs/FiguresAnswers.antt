@@ -3,7 +3,7 @@ use mathlib.Core.Bool.{false}
 use Prim.Native.Nat.{ℕ}
 use Rattle.groups.specs.Answers.{none}
 use Rattle.verdicts.specs.Calls.{Summary, VerdictReply, refused, says, alternative, written, summary, because}
-use Rattle.answers.specs.VerdictAnswers.{verdictNumberOf, verdictValueOf, verdictFoundOf}
+use Rattle.answers.specs.VerdictAnswers.{verdictNumberOf, altAnswerOf}
 use Rattle.answers.specs.declared.figuring.FiguresAnswer.{FiguresAnswer}
 
 abbrev pub noFigures : Summary
@@ -21,9 +21,9 @@ abbrev pub figuresAnswerOf : VerdictReply → FiguresAnswer
 figuresAnswerOf r = record {
   refusal = verdictNumberOf r;
   subsets = figuresIn r .subsets;
-  «has_unique» = verdictFoundOf (alternative (figuresIn r .unique));
-  unique = verdictValueOf (alternative (figuresIn r .unique));
-  «has_viable» = verdictFoundOf (alternative (figuresIn r .viable));
-  viable = verdictValueOf (alternative (figuresIn r .viable));
-  verdict = verdictValueOf (says (figuresIn r .verdict));
+  «has_unique» = altAnswerOf (alternative (figuresIn r .unique)) .found;
+  unique = altAnswerOf (alternative (figuresIn r .unique)) .value;
+  «has_viable» = altAnswerOf (alternative (figuresIn r .viable)) .found;
+  viable = altAnswerOf (alternative (figuresIn r .viable)) .value;
+  verdict = altAnswerOf (says (figuresIn r .verdict)) .value;
 }

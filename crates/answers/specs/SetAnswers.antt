@@ -3,15 +3,10 @@ use Prim.Native.Nat.{ℕ}
 use Rattle.sets.specs.Calls.{SetReply, refused, done, added}
 use Rattle.answers.specs.declared.structs.Answer.{Answer}
 
-unfoldable pub setNumberOf : SetReply → ℕ
-setNumberOf (refused n) = n
-setNumberOf done = 0
-setNumberOf (added k) = 0
+unfoldable pub setAnswerOf : SetReply → Answer
+setAnswerOf (refused n) = record { refusal = n; value = 0 }
+setAnswerOf done = record { refusal = 0; value = 0 }
+setAnswerOf (added k) = record { refusal = 0; value = k }
 
-unfoldable pub setValueOf : SetReply → ℕ
-setValueOf (refused n) = 0
-setValueOf done = 0
-setValueOf (added k) = k
-
-abbrev pub setAnswerOf : SetReply → Answer
-setAnswerOf r = record { refusal = setNumberOf r; value = setValueOf r }
+abbrev pub setNumberOf : SetReply → ℕ
+setNumberOf r = setAnswerOf r .refusal

@@ -7,7 +7,7 @@ ghost use Rattle.deciding.specs.OneAlt.{oneAlt};
 ghost use Rattle.verdicts.specs.Calls.{alternative, says};
 ghost use Rattle.figures.specs.Replies.{told};
 ghost use Rattle.answers.specs.FiguresAnswers.{figuresAnswerOf};
-ghost use Rattle.answers.specs.VerdictAnswers.{altAnswerOf, verdictFoundOf, verdictValueOf};
+ghost use Rattle.answers.specs.VerdictAnswers.{altAnswerOf};
 
 // A refusal's number, 0 where there is none; then the number of subsets, 1 and the unique alternative or 0
 // where there is none, the same of the viable one, and 1 for yes as the verdict.
@@ -24,7 +24,7 @@ pub struct FiguresAnswer {
 
 // 1 where there is an alternative.
 fn found_word(one: OneAlt) -> u32
-    ensures { λ r. ⌜ r ≡ verdictFoundOf (alternative (oneAlt one)) ⌝ }
+    ensures { λ r. ⌜ r ≡ altAnswerOf (alternative (oneAlt one)) .found ⌝ }
 {
     match one {
         OneAlt::Only(_) => 1,
@@ -34,7 +34,7 @@ fn found_word(one: OneAlt) -> u32
 
 // The alternative, or 0.
 fn alternative_word(one: OneAlt) -> u32
-    ensures { λ r. ⌜ r ≡ verdictValueOf (alternative (oneAlt one)) ⌝ }
+    ensures { λ r. ⌜ r ≡ altAnswerOf (alternative (oneAlt one)) .value ⌝ }
 {
     match one {
         OneAlt::Only(alternative) => alternative.0,
@@ -44,7 +44,7 @@ fn alternative_word(one: OneAlt) -> u32
 
 // 1 for yes.
 fn truth_word(yes: bool) -> u32
-    ensures { λ r. ⌜ r ≡ verdictValueOf (says yes) ⌝ }
+    ensures { λ r. ⌜ r ≡ altAnswerOf (says yes) .value ⌝ }
 {
     if yes {
         return 1;

@@ -1,17 +1,17 @@
 -- By cases.
 use borrow.Author.Needs.{needs}
 use mathlib.Core.Path.{refl}
-use Rattle.answers.specs.SetAnswers.{setNumberOf, setValueOf}
+use Rattle.answers.specs.SetAnswers.{setAnswerOf}
 use Rattle.answers.specs.Answers.Laws.{refused-set-answer}
 use Rattle.answers.proofs.adding.added_answer.Statement.{statement}
 use Rattle.answers.proofs.adding.added_answer.Tie as tie
 
 returns : tie.Need-returns
-unfolding setNumberOf setValueOf
+unfolding setAnswerOf
 returns c = rw (c .enum-told .given .1) refl
 
 returns-2 : tie.Need-returns-2
-unfolding setNumberOf setValueOf
+unfolding setAnswerOf
 returns-2 c = rw (c .enum-told2 .given .1) refl
 
 returns-3 : tie.Need-returns-3

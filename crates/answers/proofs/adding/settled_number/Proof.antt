@@ -1,16 +1,16 @@
 -- By cases.
 use borrow.Author.Needs.{needs}
 use mathlib.Core.Path.{refl}
-use Rattle.answers.specs.SetAnswers.{setNumberOf}
+use Rattle.answers.specs.SetAnswers.{setAnswerOf}
 use Rattle.answers.proofs.adding.settled_number.Statement.{statement}
 use Rattle.answers.proofs.adding.settled_number.Tie as tie
 
 returns : tie.Need-returns
-unfolding setNumberOf
+unfolding setAnswerOf
 returns c = rw (c .enum-told .given .1) refl
 
 returns-2 : tie.Need-returns-2
-unfolding setNumberOf
+unfolding setAnswerOf
 returns-2 c =
     let answer = c .before .before .answer in
     rw (answer .given .1) (c .refusal-number .ensures)

@@ -1,15 +1,15 @@
 -- By cases.
 use mathlib.Core.Path.{refl}
-use Rattle.answers.specs.VerdictAnswers.{verdictValueOf}
+use Rattle.answers.specs.VerdictAnswers.{altAnswerOf}
 use Rattle.answers.proofs.figuring.truth_word.Statement.{statement}
 use Rattle.answers.proofs.figuring.truth_word.Tie as tie
 
 returns : tie.Need-returns
-unfolding verdictValueOf
+unfolding altAnswerOf
 returns c = rw (c .if1 .taken) refl
 
 returns-2 : tie.Need-returns-2
-unfolding verdictValueOf
+unfolding altAnswerOf
 returns-2 c = rw (c .if1 .left) refl
 
 pub truth-word-spec : {M : Type 1} → statement M

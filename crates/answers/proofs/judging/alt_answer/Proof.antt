@@ -2,16 +2,16 @@
 use borrow.Author.Needs.{needs}
 use mathlib.Core.Path.{refl}
 use Rattle.answers.specs.Answers.Laws.{refused-alt-answer}
-use Rattle.answers.specs.VerdictAnswers.{verdictNumberOf, verdictValueOf, verdictFoundOf}
+use Rattle.answers.specs.VerdictAnswers.{altAnswerOf}
 use Rattle.answers.proofs.judging.alt_answer.Statement.{statement}
 use Rattle.answers.proofs.judging.alt_answer.Tie as tie
 
 returns : tie.Need-returns
-unfolding verdictNumberOf verdictValueOf verdictFoundOf
+unfolding altAnswerOf
 returns c = rw (c .before .before .answer .given .1) refl
 
 returns-2 : tie.Need-returns-2
-unfolding verdictNumberOf verdictValueOf verdictFoundOf
+unfolding altAnswerOf
 returns-2 c = rw (c .enum-told .given .1) refl
 
 returns-3 : tie.Need-returns-3

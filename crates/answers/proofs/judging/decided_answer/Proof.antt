@@ -1,17 +1,17 @@
 -- By cases.
 use borrow.Author.Needs.{needs}
 use mathlib.Core.Path.{refl}
-use Rattle.answers.specs.VerdictAnswers.{verdictNumberOf, verdictValueOf}
+use Rattle.answers.specs.VerdictAnswers.{altAnswerOf}
 use Rattle.answers.specs.Answers.Laws.{refused-verdict-answer}
 use Rattle.answers.proofs.judging.decided_answer.Statement.{statement}
 use Rattle.answers.proofs.judging.decided_answer.Tie as tie
 
 returns : tie.Need-returns
-unfolding verdictNumberOf verdictValueOf
+unfolding altAnswerOf
 returns c = rw (c .enum-told .given .1) refl
 
 returns-2 : tie.Need-returns-2
-unfolding verdictNumberOf verdictValueOf
+unfolding altAnswerOf
 returns-2 c = rw (c .enum-told2 .given .1) refl
 
 returns-3 : tie.Need-returns-3

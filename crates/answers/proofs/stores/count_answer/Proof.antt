@@ -2,12 +2,12 @@
 use borrow.Author.Needs.{needs}
 use mathlib.Core.Path.{refl}
 use Rattle.answers.specs.Answers.Laws.{refused-answer}
-use Rattle.answers.specs.Answers.{numberOf, valueOf, foundOf}
+use Rattle.answers.specs.Answers.{entryOf}
 use Rattle.answers.proofs.stores.count_answer.Statement.{statement}
 use Rattle.answers.proofs.stores.count_answer.Tie as tie
 
 returns : tie.Need-returns
-unfolding numberOf valueOf foundOf
+unfolding entryOf
 returns c = rw (c .before .answer .given .1) refl
 
 returns-2 : tie.Need-returns-2

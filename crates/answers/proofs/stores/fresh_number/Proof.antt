@@ -1,16 +1,16 @@
 -- By cases.
 use borrow.Author.Needs.{needs}
 use mathlib.Core.Path.{refl}
-use Rattle.answers.specs.Answers.{numberOf, valueOf, foundOf}
+use Rattle.answers.specs.Answers.{entryOf}
 use Rattle.answers.proofs.stores.fresh_number.Statement.{statement}
 use Rattle.answers.proofs.stores.fresh_number.Tie as tie
 
 returns : tie.Need-returns
-unfolding numberOf valueOf foundOf
+unfolding entryOf
 returns c = rw (c .enum-told .given .1) refl
 
 returns-2 : tie.Need-returns-2
-unfolding numberOf
+unfolding entryOf
 returns-2 c =
     let answer = c .before .before .answer in
     rw (answer .given .1) (c .refusal-number .ensures)

@@ -2,16 +2,16 @@
 use borrow.Author.Needs.{needs}
 use mathlib.Core.Path.{refl}
 use Rattle.answers.specs.Answers.Laws.{refused-entry}
-use Rattle.answers.specs.Answers.{numberOf, valueOf, foundOf}
+use Rattle.answers.specs.Answers.{entryOf}
 use Rattle.answers.proofs.stores.parent_answer.Statement.{statement}
 use Rattle.answers.proofs.stores.parent_answer.Tie as tie
 
 returns : tie.Need-returns
-unfolding numberOf valueOf foundOf
+unfolding entryOf
 returns c = rw (c .before .before .answer .given .1) refl
 
 returns-2 : tie.Need-returns-2
-unfolding numberOf valueOf foundOf
+unfolding entryOf
 returns-2 c = rw (c .enum-told .given .1) refl
 
 returns-3 : tie.Need-returns-3
