@@ -3,12 +3,12 @@
 -- scratch and output: any words, of any length. Nothing here has to be believed but what the statements say.
 use mathlib.Core.Path.{_≡_}
 use mathlib.Core.Bool.{Bool}
-use mathlib.Core.List.{List, []}
-use Prim.Native.Nat.{ℕ}
+use mathlib.Core.List.{List, [], _∷_}
+use Prim.Native.Nat.{ℕ, _<_}
 use lib.ListN.{length}
 use Rattle.layout.specs.Layout.{storeWords, scratchWords}
 use Rattle.encoding.specs.Decide.{sound}
-use Rattle.store.specs.Checks.{Exactly, DueBy}
+use Rattle.store.specs.Checks.{Exactly, DueBy, reason}
 use Rattle.store.specs.Reasons as StoreReasons
 use Rattle.store.specs.Calls as Stores
 use Rattle.store.specs.Calls.{freshCall, Keeps}
@@ -30,11 +30,16 @@ use Rattle.outputs.specs.Outputs.{subsetsLength, altsLength}
 use Rattle.verdicts.specs.Reasons.{askReasons, verdictReasons}
 use Rattle.verdicts.specs.Calls as Verdicts
 use Rattle.verdicts.specs.Calls.{readRefusal, conflictingAltSubsetsCall, conflictingAltsCall, uniqueAltCall, singleViableAltCall, allSubsetsConflictCall}
-use Rattle.verdicts.specs.Calls.{allSubsetsEqualCall, verdictCall}
+use Rattle.verdicts.specs.Calls.{allSubsetsEqualCall, verdictCall, mostStops}
+use Rattle.figures.specs.Calls.{figuresCall}
+use Rattle.figures.specs.Same.{figures-refuses}
+use Rattle.reasons.specs.Calls.{whyCall}
+use Rattle.reasons.specs.Sentences.{why-refuses}
 use Rattle.verdicts.specs.Refused.{unique-refuses, viable-refuses, conflict-refuses, equal-refuses, verdict-refuses, subsets-refuses, alts-refuses}
 
 -- "Every call ends on every input with nothing undefined": no theorem, but the toolchain's check of every function. No public call has a
--- `requires`; each loop and the cycle of merges has a measure that falls; no index is out of range and no sum wraps.
+-- `requires` (`measure_copy` has one, which is for benchmarks only); each loop and the cycle of merges has a measure that falls; no index is out of
+-- range and no sum wraps.
 
 -- ---- "Damage, unknown numbers and full tables are refused by number": n is the reply exactly if its reason holds and none before it in the
 -- call's list, which follows document 01's table
@@ -74,9 +79,11 @@ module _ (w v z : List ℕ) (n : ℕ) where
       × Exactly (allSubsetsConflictCall w v z .reply ≡ Verdicts.refused n) (DueBy n (askReasons 0 w v z [] []))
       × Exactly (allSubsetsEqualCall w v z .reply ≡ Verdicts.refused n) (DueBy n (askReasons 0 w v z [] []))
       × Exactly (verdictCall w v z stops .reply ≡ Verdicts.refused n) (DueBy n (verdictReasons w v z stops))
+      × Exactly (figuresCall w v z stops .reply ≡ Verdicts.refused n) (DueBy n (verdictReasons w v z stops))
+      × Exactly (whyCall w v z stops p .reply ≡ Verdicts.refused n) (DueBy n (askReasons altsLength w v z p (reason 10 (mostStops < length stops) ∷ [])))
   subset-calls-refused o p stops = (
     subsets-refuses w v z o n .0, alts-refuses w v z p n .0, unique-refuses w v z n .0, viable-refuses w v z n .0, conflict-refuses w v z n .0,
-    equal-refuses w v z n .0, verdict-refuses w v z stops n .0,
+    equal-refuses w v z n .0, verdict-refuses w v z stops n .0, figures-refuses w v z stops n .0, why-refuses w v z stops p n .0,
   )
 
 -- ---- "a refusal changes nothing in store or set, and clears the scratch (a wrong length leaves it)"
@@ -114,9 +121,11 @@ module _ (w v z : List ℕ) (n : ℕ) where
       × (allSubsetsConflictCall w v z .reply ≡ Verdicts.refused n → allSubsetsConflictCall w v z ≡ readRefusal z [] n)
       × (allSubsetsEqualCall w v z .reply ≡ Verdicts.refused n → allSubsetsEqualCall w v z ≡ readRefusal z [] n)
       × (verdictCall w v z stops .reply ≡ Verdicts.refused n → verdictCall w v z stops ≡ readRefusal z [] n)
+      × (figuresCall w v z stops .reply ≡ Verdicts.refused n → figuresCall w v z stops ≡ readRefusal z [] n)
+      × (whyCall w v z stops p .reply ≡ Verdicts.refused n → whyCall w v z stops p ≡ readRefusal z p n)
   subset-calls-keep o p stops = (
     subsets-refuses w v z o n .1, alts-refuses w v z p n .1, unique-refuses w v z n .1, viable-refuses w v z n .1, conflict-refuses w v z n .1,
-    equal-refuses w v z n .1, verdict-refuses w v z stops n .1,
+    equal-refuses w v z n .1, verdict-refuses w v z stops n .1, figures-refuses w v z stops n .1, why-refuses w v z stops p n .1,
   )
 
 -- ---- the two calls that work without scratch, over any earlier contents

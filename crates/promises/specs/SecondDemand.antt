@@ -47,7 +47,7 @@ use Rattle.sets.specs.Calls as Sets
 use Rattle.sets.specs.Calls.{setLeft, freshSetCall, addCall, closeCall}
 use Rattle.configs.specs.Sentences as Added
 use Rattle.groups.specs.Lists.{All}
-use Rattle.groups.specs.Groups.{groups}
+use Rattle.groups.specs.Groups.{Group, groups}
 use Rattle.groups.specs.Answers.{only, conflictingAlts}
 use Rattle.groups.specs.Sentences.{Subsets, Many, ConflictUnion, AllEqual, Viable, Unique, VerdictYes}
 use Rattle.groups.specs.Rules.{groups-unique}
@@ -222,7 +222,7 @@ close-sets-flag-8 w v z w′ v′ ok = (
 -- ---- subsets, alternatives and the verdict, of sound words
 
 -- the sentences on subsets leave no choice
-pub no-choice-of-subsets : (v : List ℕ) (gs : List _) → Subsets (setOf v .configs) gs → gs ≡ groups (setOf v .configs)
+pub no-choice-of-subsets : (v : List ℕ) (gs : List Group) → Subsets (setOf v .configs) gs → gs ≡ groups (setOf v .configs)
 no-choice-of-subsets v gs = groups-unique (setOf v .configs) gs
 
 module _ (w v z : List ℕ) (lw : length w ≡ storeWords) (lv : length v ≡ setWordsLength) (lz : length z ≡ scratchWords)

@@ -16,7 +16,7 @@ clashing none = []
 clashing (one s a) = []
 clashing (clash s k xs) = xs
 
--- "257: count, alternatives rising, rest 0, all 0 unless it is a clash"
+-- as the words of `conflicting_alts`: count, alternatives rising, rest 0; all 0 unless it is a clash
 unfoldable pub reasonWords : Reason → List ℕ
 reasonWords r = padded altsLength (length (clashing r) ∷ clashing r)
 

@@ -8,3 +8,4 @@ pub mod Finds
 pub mod Clash
 pub mod Told
 pub mod Sentences
+pub mod Determined

@@ -15,7 +15,7 @@ pub data Event : Type 0 where
   placed : ℕ → ℕ → ℕ → Event
   other : Event
 
--- one accepted call that is lent a store, from its words before to those after, with any scratch and any set; the calls on subsets write neither
+-- one accepted call that is lent a store, or a query, accepted or not, from its words before to those after, with any scratch and any set; the calls on subsets write neither
 pub data Step : List ℕ → Event → List ℕ → Type 0 where
   singleton : {w w′ : List ℕ} (z : List ℕ) (p r c : ℕ) → Accepts (singletonCall w z p r) c w′ → Step w (placed p r c) w′
   merge : {w w′ : List ℕ} (z : List ℕ) (m : Bool) (a b c : ℕ) → Accepts (mergeCall w z a b m) c w′ → Step w (merged m a b c) w′

@@ -119,7 +119,7 @@ step m inner t a b =
       ]
     ]
 
--- so deep and no deeper
+-- so deep and no deeper; depth 0 is never reached (Theorems.one-step)
 unfoldable pub deep : Bool → ℕ → Merge
 deep m zero t a b = refused 12
 deep m (suc f) t a b = step m (deep m f) t a b
