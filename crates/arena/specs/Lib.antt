@@ -1,4 +1,4 @@
--- Stores of contexts. To believe: Store, Place, Kinds. The rest are laws; Identity, Numbering and Grouping read beside document 01.
+-- Stores of contexts. To believe: Store, Stands, Place, Numbering, Kinds, Room. The rest are laws.
 pub mod Store
 pub mod Soundness
 pub mod Trees

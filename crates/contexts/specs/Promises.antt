@@ -125,9 +125,10 @@ module _ (w z : List ℕ) (a b : ℕ) (m : Bool) (c : ℕ) (w′ : List ℕ) (ok
   pub itself : a ≡ b → (c ≡ a) × (w′ ≡ w)
   itself e =
       let s = storeOf w in
-      let same : mergeS m s a b ≡ (a, s) = merge-same m s (passed .good .sound) a b ha hb e in
-      (sym (passed .number) ∙ ap (λ (x : ℕ × Store). x .0) same,
-      sym (passed .after) ∙ ap (λ (x : ℕ × Store). wordsOf (x .1)) same ∙ sym (passed .words))
+      let same : mergeS m s a b ≡ (a, s) = merge-same m s (passed .good .sound) a b ha hb e in (
+        sym (passed .number) ∙ ap (λ (x : ℕ × Store). x .0) same,
+        sym (passed .after) ∙ ap (λ (x : ℕ × Store). wordsOf (x .1)) same ∙ sym (passed .words),
+      )
 
   -- every older number's set is as it was, and none goes
   pub older-kept : (k : ℕ) → k < contexts w → (k < contexts w′) × ((σ : List ℕ) → stands (storeOf w′) k σ ≡ stands (storeOf w) k σ)

@@ -1,4 +1,4 @@
--- The words of a store. To believe: Layout, Decode, Sound, Encode.
+-- The words of a store. To believe: Layout, Listing, Decode, Encode, Ceilings, Sound.
 pub mod Layout
 pub mod Scratch
 pub mod Listing

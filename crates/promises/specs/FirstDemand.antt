@@ -58,7 +58,10 @@ module _ (w v z : List ℕ) (n : ℕ) where
       × Exactly (returnStateCall w z c i .reply ≡ Stores.refused n) (DueBy n (StoreReasons.askReasons w z c))
       × Exactly (parentCall w z c i .reply ≡ Stores.refused n) (DueBy n (StoreReasons.askReasons w z c))
   queries-refused c i = (
-    len-refuses w z c n .0, is-empty-refuses w z c n .0, has-empty-path-refuses w z c n .0, return-state-refuses w z c i n .0,
+    len-refuses w z c n .0,
+    is-empty-refuses w z c n .0,
+    has-empty-path-refuses w z c n .0,
+    return-state-refuses w z c i n .0,
     parent-refuses w z c i n .0,
   )
 
@@ -82,8 +85,15 @@ module _ (w v z : List ℕ) (n : ℕ) where
       × Exactly (figuresCall w v z stops .reply ≡ Verdicts.refused n) (DueBy n (verdictReasons w v z stops))
       × Exactly (whyCall w v z stops p .reply ≡ Verdicts.refused n) (DueBy n (askReasons altsLength w v z p (reason 10 (mostStops < length stops) ∷ [])))
   subset-calls-refused o p stops = (
-    subsets-refuses w v z o n .0, alts-refuses w v z p n .0, unique-refuses w v z n .0, viable-refuses w v z n .0, conflict-refuses w v z n .0,
-    equal-refuses w v z n .0, verdict-refuses w v z stops n .0, figures-refuses w v z stops n .0, why-refuses w v z stops p n .0,
+    subsets-refuses w v z o n .0,
+    alts-refuses w v z p n .0,
+    unique-refuses w v z n .0,
+    viable-refuses w v z n .0,
+    conflict-refuses w v z n .0,
+    equal-refuses w v z n .0,
+    verdict-refuses w v z stops n .0,
+    figures-refuses w v z stops n .0,
+    why-refuses w v z stops p n .0,
   )
 
 -- ---- "a refusal changes nothing in store or set, and clears the scratch (a wrong length leaves it)"
@@ -102,7 +112,10 @@ module _ (w v z : List ℕ) (n : ℕ) where
       × (returnStateCall w z c i .reply ≡ Stores.refused n → Keeps w z n (returnStateCall w z c i))
       × (parentCall w z c i .reply ≡ Stores.refused n → Keeps w z n (parentCall w z c i))
   queries-keep c i = (
-    len-refuses w z c n .1, is-empty-refuses w z c n .1, has-empty-path-refuses w z c n .1, return-state-refuses w z c i n .1,
+    len-refuses w z c n .1,
+    is-empty-refuses w z c n .1,
+    has-empty-path-refuses w z c n .1,
+    return-state-refuses w z c i n .1,
     parent-refuses w z c i n .1,
   )
 
@@ -124,8 +137,15 @@ module _ (w v z : List ℕ) (n : ℕ) where
       × (figuresCall w v z stops .reply ≡ Verdicts.refused n → figuresCall w v z stops ≡ readRefusal z [] n)
       × (whyCall w v z stops p .reply ≡ Verdicts.refused n → whyCall w v z stops p ≡ readRefusal z p n)
   subset-calls-keep o p stops = (
-    subsets-refuses w v z o n .1, alts-refuses w v z p n .1, unique-refuses w v z n .1, viable-refuses w v z n .1, conflict-refuses w v z n .1,
-    equal-refuses w v z n .1, verdict-refuses w v z stops n .1, figures-refuses w v z stops n .1, why-refuses w v z stops p n .1,
+    subsets-refuses w v z o n .1,
+    alts-refuses w v z p n .1,
+    unique-refuses w v z n .1,
+    viable-refuses w v z n .1,
+    conflict-refuses w v z n .1,
+    equal-refuses w v z n .1,
+    verdict-refuses w v z stops n .1,
+    figures-refuses w v z stops n .1,
+    why-refuses w v z stops p n .1,
   )
 
 -- ---- the two calls that work without scratch, over any earlier contents

@@ -1,24 +1,29 @@
 -- Promised: demand 2. "Answers, context numbers included, equal the Rust's within our capacities (differential runs), and are proved against
 -- document 01's stack-set rules." w and w′ are the words of a store before and after a call, v and v′ those of a set, z those of the scratch.
 -- Nothing here has to be believed but what the statements say.
-use mathlib.Core.Path.{_≡_, ap, _∙_}
+use mathlib.Core.Path.{_≡_, refl, ap, _∙_}
 use mathlib.Core.Logic.{_↔_}
 use mathlib.Core.Bool.{Bool, true, false, not, _&&_}
 use mathlib.Core.List.{List, [], _∷_, flatMap, List·Memᴰ}
 use Prim.Native.Nat.{ℕ, suc, _<_, _≤_, _+_, max}
 use native.Mathlib.Omega.{arith}
-use lib.Dec.{eqb}
+use lib.Dec.{eqb, ltb}
 use lib.ListN.{length, getD}
+use borrow.Author.Tests.{le-ltb}
 use Rattle.words.specs.Names.{emptyMark}
 use Rattle.words.specs.Provenance.{markOf}
-use Rattle.stacks.specs.Forest.{none, over}
-use Rattle.stacks.specs.Merge.{mergeT}
+use Rattle.stacks.specs.Forest.{over}
+use Rattle.stacks.specs.Forest as Forests
+use Rattle.stacks.specs.Merge.{isMark, mergeT}
 use Rattle.stacks.specs.Rules.{Stacks, MergeRule, WildcardMerge}
 use Rattle.stacks.specs.Rules.Laws.{wildcard-determined}
-use Rattle.arena.specs.Store.{dollar, tree, nodeAt}
+use Rattle.arena.specs.Store.{end, dollar, tree, nodeAt}
+use Rattle.arena.specs.Place.{intern}
 use Rattle.arena.specs.Kinds.{size}
+use Rattle.arena.specs.Kinds.Laws.{intern-end, intern-dollar}
 use Rattle.arena.specs.Stands.{stands, entriesStand}
-use Rattle.arena.specs.Numbering.{parts, sets, allJoined}
+use Rattle.arena.specs.Numbering.{parts, sets, setAt, allJoined}
+use Rattle.arena.specs.Numbering.Laws.{sets-at}
 use Rattle.arena.specs.Identity.{finite-stacks, some-stack, root-stands, record-stands}
 use Rattle.layout.specs.Layout.{storeWords, scratchWords, stop, count as contexts, kind, first, second, state}
 use Rattle.layout.specs.Decode.{storeOf}
@@ -27,7 +32,7 @@ use Rattle.layout.specs.Sound.{SoundWords}
 use Rattle.encoding.specs.Decide.{sound}
 use Rattle.encoding.specs.Decide.Laws.{sound-true, true-sound}
 use Rattle.encoding.specs.Decoded.{decoded}
-use Rattle.store.specs.Checks.{Exactly}
+use Rattle.store.specs.Checks.{given, Exactly}
 use Rattle.store.specs.Calls as Stores
 use Rattle.store.specs.Calls.{zeros, leaves, Accepts, freshCall}
 use Rattle.store.specs.FreshWords.{fresh-goes}
@@ -36,7 +41,7 @@ use Rattle.interning.specs.SingletonCall.{singletonCall}
 use Rattle.interning.specs.Promises.{mark-answers-0, single-stands, single-sound-after, single-numbers}
 use Rattle.contexts.specs.MergeCall.{mergeCall}
 use Rattle.contexts.specs.Promises.{merge-by-wildcard, merge-sound-after, merge-numbers-after}
-use Rattle.queries.specs.Queries.{stateAt, parentOf}
+use Rattle.queries.specs.Queries.{stateAt, parentOf, lenCall, isEmptyCall, hasEmptyPathCall, returnStateCall, parentCall}
 use Rattle.queries.specs.Sentences as Asked
 use Rattle.sets.specs.Layout.{setWordsLength, configAt, configCount, flag}
 use Rattle.sets.specs.Config.{Config}
@@ -48,14 +53,19 @@ use Rattle.sets.specs.Calls.{setLeft, freshSetCall, addCall, closeCall}
 use Rattle.configs.specs.Sentences as Added
 use Rattle.groups.specs.Lists.{All}
 use Rattle.groups.specs.Groups.{Group, groups}
-use Rattle.groups.specs.Answers.{only, conflictingAlts}
-use Rattle.groups.specs.Sentences.{Subsets, Many, ConflictUnion, AllEqual, Viable, Unique, VerdictYes}
+use Rattle.groups.specs.Answers as Answers
+use Rattle.groups.specs.Answers.{none, conflictingAlts, uniqueAlt, singleViableAlt, allSubsetsConflict, allSubsetsEqual}
+use Rattle.groups.specs.Sentences.{Subsets, Many, ConflictUnion, AllEqual, Viable, Unique, Says, VerdictYes}
 use Rattle.groups.specs.Rules.{groups-unique}
+use Rattle.groups.specs.Single.{unique-says, viable-says}
+use Rattle.groups.specs.Conflicts.{conflict-exact}
+use Rattle.groups.specs.Equal.{equal-exact}
+use Rattle.groups.specs.Decided.{verdict-exact, verdict-empty, conflict-empty, equal-empty, viable-empty, unique-empty}
 use Rattle.outputs.specs.Outputs.{subsetsLength, altsLength, padded, groupWords}
 use Rattle.verdicts.specs.Calls.{alternative, says, mostStops, conflictingAltSubsetsCall, conflictingAltsCall, uniqueAltCall, singleViableAltCall}
-use Rattle.verdicts.specs.Calls.{allSubsetsConflictCall, allSubsetsEqualCall, verdictCall}
+use Rattle.verdicts.specs.Calls.{allSubsetsConflictCall, allSubsetsEqualCall, verdictCall, VerdictLeft}
 use Rattle.verdicts.specs.Sentences as Judged
-use Rattle.promises.specs.Words.{holds, known, asks, lent}
+use Rattle.promises.specs.Words.{store-sound, known, asks, lent, answers}
 
 -- "equal the Rust's within our capacities (differential runs)": no theorem, but the gate's comparisons with the Rust that is ported, in rust/.
 
@@ -79,15 +89,15 @@ module _ (w : List ℕ) (l : length w ≡ storeWords) (s : sound w ≡ true) whe
   -- "A context stands for a finite, non-empty set of stacks of return states."
   pub finite-and-some : (c : ℕ) → c < contexts w
       → ((σs : List (List ℕ)) × ((σ : List ℕ) → (stands (storeOf w) c σ ≡ true) ↔ List·Memᴰ σ σs)) × ((σ : List ℕ) × (stands (storeOf w) c σ ≡ true))
-  finite-and-some c h = (finite-stacks (storeOf w) c, some-stack (storeOf w) (holds w l s) c (known w c h))
+  finite-and-some c h = (finite-stacks (storeOf w) c, some-stack (storeOf w) (store-sound w l s) c (known w c h))
 
   -- "Context 0 stands for the set with only the empty stack."
   pub context-0 : (stands (storeOf w) 0 [] ≡ true) × ((x : ℕ) (σ : List ℕ) → stands (storeOf w) 0 (x ∷ σ) ≡ false)
-  context-0 = root-stands (storeOf w) (holds w l s) (known w 0 (omega (arith, sound-true w l s .counted .0)))
+  context-0 = root-stands (storeOf w) (store-sound w l s) (known w 0 (omega (arith, sound-true w l s .counted .0)))
 
   -- "An array stands for the union over its entries. The entry `$` .. is the empty stack."
   pub each-record : (c : ℕ) → c < contexts w → (σ : List ℕ) → stands (storeOf w) c σ ≡ entriesStand (storeOf w) (nodeAt (storeOf w) c) σ
-  each-record c h = record-stands (storeOf w) (holds w l s) c (known w c h)
+  each-record c h = record-stands (storeOf w) (store-sound w l s) c (known w c h)
 
   -- "An interned list .. of one other entry, a singleton; of two or more, an array."
   pub one-entry : (c : ℕ) → c < contexts w → 0 < c → size (nodeAt (storeOf w) c) ≡ 1 → kind w c ≡ 1
@@ -95,6 +105,27 @@ module _ (w : List ℕ) (l : length w ≡ storeWords) (s : sound w ≡ true) whe
 
   pub more-entries : (c : ℕ) → c < contexts w → 2 ≤ size (nodeAt (storeOf w) c) → kind w c ≡ 2
   more-entries c h = Asked.more-are-array w c (asks w l s c h)
+
+  -- "An interned list of no entries, or of `$` alone, is context 0"
+  pub no-entries : (intern (storeOf w) end ≡ (0, storeOf w)) × (intern (storeOf w) dollar ≡ (0, storeOf w))
+  no-entries =
+      let some = known w 0 (omega (arith, sound-true w l s .counted .0)) in
+      (intern-end (storeOf w) (store-sound w l s) some, intern-dollar (storeOf w) (store-sound w l s) some)
+
+  -- a query answers of the context's entries and of its stacks: how many entries; is it the set of the empty stack alone; is the empty stack in it
+  pub queries-answer : (z : List ℕ) → length z ≡ scratchWords → (c i : ℕ) → c < contexts w
+      → (lenCall w z c .reply ≡ Stores.count (size (nodeAt (storeOf w) c)))
+      × (isEmptyCall w z c .reply ≡ Stores.holds (isMark (tree (storeOf w) c)))
+      × (hasEmptyPathCall w z c .reply ≡ Stores.holds (stands (storeOf w) c []))
+      × (returnStateCall w z c i .reply ≡ stateAt (nodeAt (storeOf w) c) i)
+      × (parentCall w z c i .reply ≡ parentOf (storeOf w) c i)
+  queries-answer z lz c i h = (
+    ap (λ (x : Stores.Left). x .reply) (answers w z c _ l lz s h),
+    ap (λ (x : Stores.Left). x .reply) (answers w z c _ l lz s h),
+    ap (λ (x : Stores.Left). x .reply) (answers w z c _ l lz s h),
+    ap (λ (x : Stores.Left). x .reply) (answers w z c _ l lz s h),
+    ap (λ (x : Stores.Left). x .reply) (answers w z c _ l lz s h),
+  )
 
   -- "Queries": "`return_state` of a `$`, context 0's at 0 included, is the empty mark; `parent` of context 0 is none at every index .. Context 0
   -- has one entry."
@@ -130,10 +161,14 @@ module _ (w z : List ℕ) (p r c : ℕ) (w′ : List ℕ) (ok : Accepts (singlet
   singleton-sound = single-sound-after w z p r c w′ ok
 
   -- "New contexts take the next number .. and nothing else is made."
-  pub singleton-numbers : r < stop → sets (storeOf w′) ≡ allJoined (sets (storeOf w)) (parts (over r (tree (storeOf w) p) none))
+  pub singleton-numbers : r < stop → sets (storeOf w′) ≡ allJoined (sets (storeOf w)) (parts (over r (tree (storeOf w) p) Forests.none))
   singleton-numbers = single-numbers w z p r c w′ ok
 
 -- ---- an accepted merge
+
+-- a number is the place of its set among those of the store, from which the next number is told
+pub numbers-are-places : (w : List ℕ) (c : ℕ) → c < contexts w → setAt (sets (storeOf w)) c ≡ tree (storeOf w) c
+numbers-are-places w c h = sets-at (storeOf w) c (known w c h)
 
 -- "Wildcard merge of A and B", sentence by sentence; the full-context merge is demand 3's
 pub wildcard : (w z : List ℕ) (a b c : ℕ) (w′ : List ℕ) → Accepts (mergeCall w z a b true) c w′
@@ -239,21 +274,40 @@ module _ (w v z : List ℕ) (lw : length w ≡ storeWords) (lv : length v ≡ se
       × (conflictingAltsCall w v z o .output ≡ padded altsLength (length (conflictingAlts (setOf v .configs)) ∷ conflictingAlts (setOf v .configs)))
   conflicting = Judged.alts-written w v z (lent w v z lw lv lz s t)
 
-  -- unique: the set is not empty and every config has it. Viable: the least of every subset
-  pub unique : (a : ℕ) → (uniqueAltCall w v z .reply ≡ alternative (only a)) ↔ Unique (setOf v .configs) a
-  unique = Judged.unique-answers w v z (lent w v z lw lv lz s t)
+  -- unique: the set is not empty and every config has it. Viable: the least of every subset. Else the answer is none
+  pub unique : (uniqueAltCall w v z .reply ≡ alternative (uniqueAlt (setOf v .configs))) × Says (Unique (setOf v .configs)) (uniqueAlt (setOf v .configs))
+  unfolding uniqueAltCall
+  unique = (ap (λ (x : VerdictLeft). x .reply) (Judged.answered w v z (lent w v z lw lv lz s t) 0 [] refl [] tt _ []), unique-says (setOf v .configs))
 
-  pub viable : (a : ℕ) → (singleViableAltCall w v z .reply ≡ alternative (only a)) ↔ Viable (groups (setOf v .configs)) a
-  viable = Judged.viable-answers w v z (lent w v z lw lv lz s t)
+  pub viable : (singleViableAltCall w v z .reply ≡ alternative (singleViableAlt (setOf v .configs)))
+      × Says (Viable (groups (setOf v .configs))) (singleViableAlt (setOf v .configs))
+  unfolding singleViableAltCall
+  viable = (ap (λ (x : VerdictLeft). x .reply) (Judged.answered w v z (lent w v z lw lv lz s t) 0 [] refl [] tt _ []), viable-says (setOf v .configs))
 
-  -- conflict: each subset has two or more. Equal: all have the same alternatives
-  pub conflict : (allSubsetsConflictCall w v z .reply ≡ says true) ↔ All Many (groups (setOf v .configs))
-  conflict = Judged.conflict-answers w v z (lent w v z lw lv lz s t)
+  -- conflict: each subset has two or more. Equal: all have the same alternatives. Yes exactly then, and else no
+  pub conflict : (allSubsetsConflictCall w v z .reply ≡ says (allSubsetsConflict (setOf v .configs)))
+      × ((allSubsetsConflict (setOf v .configs) ≡ true) ↔ All Many (groups (setOf v .configs)))
+  unfolding allSubsetsConflictCall
+  conflict = (ap (λ (x : VerdictLeft). x .reply) (Judged.answered w v z (lent w v z lw lv lz s t) 0 [] refl [] tt _ []), conflict-exact (setOf v .configs))
 
-  pub equal : (allSubsetsEqualCall w v z .reply ≡ says true) ↔ AllEqual (groups (setOf v .configs))
-  equal = Judged.equal-answers w v z (lent w v z lw lv lz s t)
+  pub equal : (allSubsetsEqualCall w v z .reply ≡ says (allSubsetsEqual (setOf v .configs)))
+      × ((allSubsetsEqual (setOf v .configs) ≡ true) ↔ AllEqual (groups (setOf v .configs)))
+  unfolding allSubsetsEqualCall
+  equal = (ap (λ (x : VerdictLeft). x .reply) (Judged.answered w v z (lent w v z lw lv lz s t) 0 [] refl [] tt _ []), equal-exact (setOf v .configs))
 
   -- "Verdict: yes if every config is in a listed stop state, an empty set included. Else yes exactly if some subset has two or more alternatives
   -- and no state has just one."
-  pub verdict : (stops : List ℕ) → length stops ≤ mostStops → (verdictCall w v z stops .reply ≡ says true) ↔ VerdictYes stops (setOf v .configs)
-  verdict = Judged.verdict-answers w v z (lent w v z lw lv lz s t)
+  pub verdict : (stops : List ℕ) → length stops ≤ mostStops
+      → (verdictCall w v z stops .reply ≡ says (Answers.verdict stops (setOf v .configs)))
+      × ((Answers.verdict stops (setOf v .configs) ≡ true) ↔ VerdictYes stops (setOf v .configs))
+  unfolding verdictCall
+  verdict stops h = (
+    ap (λ (x : VerdictLeft). x .reply)
+        (Judged.answered w v z (lent w v z lw lv lz s t) 0 [] refl (given 10 (ltb mostStops (length stops)) ∷ []) (le-ltb mostStops (length stops) h, tt) _ []),
+    verdict-exact stops (setOf v .configs),
+  )
+
+-- "Of a set without subsets, `all_subsets_conflict` and `all_subsets_equal` say yes, `single_viable_alt` says none"; `unique_alt` none; the verdict yes
+pub without-subsets : (stops : List ℕ) → (allSubsetsConflict [] ≡ true) × (allSubsetsEqual [] ≡ true) × (singleViableAlt [] ≡ none)
+    × (uniqueAlt [] ≡ none) × (Answers.verdict stops [] ≡ true)
+without-subsets stops = (conflict-empty, equal-empty, viable-empty, unique-empty, verdict-empty stops)

@@ -1,4 +1,4 @@
--- Config sets. To believe: Config, Lists, Layout, Sets, Checks, Words, Calls, Reasons.
+-- Config sets. To believe: Config, Lists, Layout, Sets, Words, Calls, Reasons.
 pub mod Config
 pub mod Lists
 pub mod Layout

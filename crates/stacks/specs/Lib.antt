@@ -1,4 +1,4 @@
--- Finite sets of stacks of return states. To believe: Forest, Merge. To read beside document 01: Rules.
+-- Finite sets of stacks of return states. To believe: Forest, Merge, Rules (document 01 sentence by sentence), Losses.
 pub mod Forest
 pub mod Beneath
 pub mod Merge

@@ -33,7 +33,7 @@ module _ (w v z : List ℕ) (s : SoundLent w v z) where
   cs = setOf v .configs
 
   -- a call whose lent words are sound answers
-  answered : (n : ℕ) (o : List ℕ) → length o ≡ n → (more : List Check) → Clear more → (r : VerdictReply) (p : List ℕ) → readCall n more w v z o r p ≡ verdictLeft r zeros p
+  pub answered : (n : ℕ) (o : List ℕ) → length o ≡ n → (more : List Check) → Clear more → (r : VerdictReply) (p : List ℕ) → readCall n more w v z o r p ≡ verdictLeft r zeros p
   unfolding readCall lentChecks unless
   answered n o e more c r p =
       let plain : (lentLengths w v z && eqb (length o) n) ≡ lentLengths w v z = rw (eq-eqb (length o) n e) (and-true (lentLengths w v z)) in

@@ -37,7 +37,10 @@ pub fn reason_of(set: &[u32], scratch: &mut [u32], stops: &[u32], output: &mut [
     };
     let lone = find_lone(set, scratch);
     if let KeyPlace::At(place) = lone {
-        return Reason::One(state_of(set, place), Alternative(alternative_of(set, place)));
+        return Reason::One(
+            state_of(set, place),
+            Alternative(alternative_of(set, place)),
+        );
     }
     write_clash(set, scratch, output, first);
     Reason::Clash(state_of(set, first), ContextId(context_of(set, first)))

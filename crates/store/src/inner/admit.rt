@@ -1,7 +1,7 @@
 // The checks that every call begins with: lengths (2), soundness (1), a known context (4).
-use storecheck::inner::check::check_store;
 use layout::SCRATCH_WORDS;
 use layout::STORE_WORDS;
+use storecheck::inner::check::check_store;
 use words::ContextId;
 use words::Refusal;
 ghost use Rattle.store.specs.Admit.{Admits, Opened};
