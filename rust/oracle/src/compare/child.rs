@@ -8,8 +8,8 @@ use std::sync::mpsc;
 use std::thread;
 use std::time::{Duration, Instant};
 
-/// Longest time that a script may take.
-const TIME_LIMIT: Duration = Duration::from_secs(10);
+/// Longest time that a script may take: a program may run by an emulator, on a busy machine.
+const TIME_LIMIT: Duration = Duration::from_secs(30);
 /// Bytes of output read beyond the expected ones: enough to see that there are too many.
 const BEYOND: usize = 4_096;
 
