@@ -8,3 +8,4 @@ pub mod Find
 pub mod Step
 pub mod Clash
 pub mod Marks
+pub mod FirstMarked

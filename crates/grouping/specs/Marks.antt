@@ -48,8 +48,3 @@ pub record Marked (v : List ℕ) (p : Picks) (n : ℕ) (z u : List ℕ) : Type 0
   pub same : (j : ℕ) → j < marksAt → getD u j 0 ≡ getD z j 0
   pub hit : (i : ℕ) → i < n → picks p (configAt v (leaderAt z i)) (configAt v i) ≡ true → markAt u (leaderAt z i) ≡ 1
   pub only : (l : ℕ) → l < configCount v → (markAt u l ≡ 0) ⊎ ((i : ℕ) × (i < n) × (leaderAt z i ≡ l) × (picks p (configAt v l) (configAt v i) ≡ true))
-
--- every first one is marked, or one is not
-abbrev pub AllMarked : ℕ → List ℕ → Bool → Type 0
-AllMarked n z true = (i : ℕ) → i < n → markAt z (leaderAt z i) ≡ 0 → ⊥
-AllMarked n z false = (i : ℕ) × (i < n) × (markAt z (leaderAt z i) ≡ 0)

@@ -23,20 +23,20 @@ use Rattle.groups.specs.Conflicts.{many-exact, Rival, many-rival, rival-many, c
 use Rattle.groups.specs.Decided.{stopped-exact, just-exact}
 use Rattle.groups.specs.Reason.{Reason, stop, none, one, clash, reason, FirstOf, Holds, NoEarlier}
 use Rattle.groups.specs.Reason.Laws.{first-some, reason-stop, reason-is}
-use Rattle.grouping.specs.Alike.{alikeOf}
+use Rattle.grouping.specs.Alike.{alikeOf, alikeAt}
 use Rattle.grouping.specs.Ways.{same-places, same-states}
 use Rattle.grouping.specs.Places.{place-some, some-place}
 use Rattle.grouping.specs.Clash.{configsOf}
-use Rattle.grouping.specs.Led.{Led}
-use Rattle.grouping.specs.Marks.{leaderAt, Marked, picks}
-use Rattle.grouping.specs.Marks.Laws.{mark-tells}
+use Rattle.grouping.specs.Leads.{FirstAlike}
+use Rattle.grouping.specs.Led.Laws.{kin}
+use Rattle.grouping.specs.Marks.{picks}
+use Rattle.grouping.specs.FirstMarked.{served, FirstPicked}
 use Rattle.grouping.specs.declared.inner.traits.Alike.the-variants.{State, Place}
 use Rattle.grouping.specs.declared.inner.marks.Picks.the-variants.{Rivals}
 use Rattle.setcheck.specs.declared.inner.keys.KeyPlace.{KeyPlace}
 use Rattle.setcheck.specs.declared.inner.keys.KeyPlace.the-variants.{At, New}
 use Rattle.deciding.specs.Picked.{both-exact, place-exact, rival-exact, any-fails}
 use Rattle.reasons.specs.First.{place-first, first-subset}
-use Rattle.reasons.specs.Marked.{marks, FirstMarked}
 
 -- config i is one of the configs
 here : (v : List ℕ) (n i : ℕ) → i < n → In (configAt v i) (configsIn v n)
@@ -62,17 +62,17 @@ not-true false e = sym e
 
 -- ---- the first subset with two or more alternatives
 
-module _ {v z u : List ℕ} (x : Led v Place (configCount v) z) (w : Marked v Rivals (configCount v) z u) where
-  marked-many : (i : ℕ) → i < configCount v → marks u i ≡ many (subset (configsOf v) (configAt v i))
-  unfolding marks
-  marked-many i h = mark-tells x w i h ∙ clash-exact (configsOf v) (configAt v i) (here v (configCount v) i h)
+module _ (v : List ℕ) where
+  served-many : (i : ℕ) → i < configCount v → served v Place Rivals i ≡ many (subset (configsOf v) (configAt v i))
+  unfolding served
+  served-many i h = clash-exact (configsOf v) (configAt v i) (here v (configCount v) i h)
 
-  module _ (i : ℕ) (f : FirstMarked (configCount v) u true (At i)) where
+  module _ (i : ℕ) (f : FirstPicked v Place Rivals true (At i)) where
     not-before : (j : ℕ) → j < i → Many (subset (configsOf v) (configAt v j)) → ⊥
-    not-before j l m = f .2 j l (marked-many j (omega (arith, f .0)) ∙ many-exact (subset (configsOf v) (configAt v j)) .1 m)
+    not-before j l m = f .2 j l (served-many j (omega (arith, f .0)) ∙ many-exact (subset (configsOf v) (configAt v j)) .1 m)
 
-    pub many-here : Many (subset (configsOf v) (configAt v i))
-    many-here = many-exact (subset (configsOf v) (configAt v i)) .0 (sym (marked-many i (f .0)) ∙ f .1)
+    many-here : Many (subset (configsOf v) (configAt v i))
+    many-here = many-exact (subset (configsOf v) (configAt v i)) .0 (sym (served-many i (f .0)) ∙ f .1)
 
     pub clash-first : FirstOf Many (subset (configsOf v) (configAt v i)) (groups (configsOf v))
     clash-first =
@@ -80,42 +80,43 @@ module _ {v z u : List ℕ} (x : Led v Place (configCount v) z) (w : Marked v Ri
         (place-first (λ c. Many (subset (configsOf v) c)) v (configCount v) i (f .0) not-before many-here)
 
     -- it is the first config of its subset
-    pub clash-leads : leaderAt z i ≡ i
-    clash-leads =
-        let a = x .leads i (f .0) in
-        let one : together (configAt v (leaderAt z i)) (configAt v i) ≡ true =
-        sym (ap (λ (k : Config → Config → Bool). k (configAt v (leaderAt z i)) (configAt v i)) same-places) ∙ a .same in
-        two (leaderAt z i) i (λ e. e)
-        (λ d. absurd (not-before (leaderAt z i) (omega (arith, a .early)) (rw (subset-same (configsOf v) _ _ one) many-here)))
+    pub clash-leads : FirstAlike (alikeAt v Place) i i
+    clash-leads = record {
+      early = omega arith;
+      same = kin v Place .self i;
+      first = λ j l. is-false (alikeAt v Place j i) (λ e.
+          let one : together (configAt v j) (configAt v i) ≡ true =
+          sym (ap (λ (k : Config → Config → Bool). k (configAt v j) (configAt v i)) same-places) ∙ e in
+          not-before j l (rw (subset-same (configsOf v) _ _ one) many-here));
+    }
 
-  pub clash-none : FirstMarked (configCount v) u true New → Conflict (configsOf v) → ⊥
+  pub clash-none : FirstPicked v Place Rivals true New → Conflict (configsOf v) → ⊥
   clash-none f c =
       let s = some-place v (Rival (configsOf v)) (configCount v) c in
-      f (s .0) (s .1) (marked-many (s .0) (s .1)
+      f (s .0) (s .1) (served-many (s .0) (s .1)
       ∙ many-exact (subset (configsOf v) (configAt v (s .0))) .1 (rival-many (configsOf v) (configAt v (s .0)) (here v (configCount v) (s .0) (s .1)) (s .2)))
 
--- ---- the first state with just one
+  -- ---- the first state with just one
 
-module _ {v z u : List ℕ} (x : Led v State (configCount v) z) (w : Marked v Rivals (configCount v) z u) where
-  marked-more : (i : ℕ) → i < configCount v → marks u i ≡ not (justOne (configsOf v) (configAt v i))
-  unfolding marks
-  marked-more i h = mark-tells x w i h ∙ lone-exact (configsOf v) (configAt v i)
+  served-more : (i : ℕ) → served v State Rivals i ≡ not (justOne (configsOf v) (configAt v i))
+  unfolding served
+  served-more i = lone-exact (configsOf v) (configAt v i)
 
-  alone : (i : ℕ) → i < configCount v → marks u i ≡ false → JustOne (configsOf v) (configAt v i)
-  alone i h e = just-exact (configsOf v) (configAt v i) .0 (not-true _ (sym (marked-more i h) ∙ e))
+  alone : (i : ℕ) → served v State Rivals i ≡ false → JustOne (configsOf v) (configAt v i)
+  alone i e = just-exact (configsOf v) (configAt v i) .0 (not-true _ (sym (served-more i) ∙ e))
 
-  lonely : (i : ℕ) → i < configCount v → JustOne (configsOf v) (configAt v i) → marks u i ≡ false
-  lonely i h j = marked-more i h ∙ ap not (just-exact (configsOf v) (configAt v i) .1 j)
+  lonely : (i : ℕ) → JustOne (configsOf v) (configAt v i) → served v State Rivals i ≡ false
+  lonely i j = served-more i ∙ ap not (just-exact (configsOf v) (configAt v i) .1 j)
 
-  pub lone-first : (i : ℕ) → FirstMarked (configCount v) u false (At i) → FirstOf (JustOne (configsOf v)) (configAt v i) (configsOf v)
+  pub lone-first : (i : ℕ) → FirstPicked v State Rivals false (At i) → FirstOf (JustOne (configsOf v)) (configAt v i) (configsOf v)
   lone-first i f =
-      place-first (JustOne (configsOf v)) v (configCount v) i (f .0) (λ j l p. f .2 j l (lonely j (omega (arith, f .0)) p)) (alone i (f .0) (f .1))
+      place-first (JustOne (configsOf v)) v (configCount v) i (f .0) (λ j l p. f .2 j l (lonely j p)) (alone i (f .1))
 
-  pub lone-none : FirstMarked (configCount v) u false New → (c : Config) → FirstOf (JustOne (configsOf v)) c (configsOf v) → ⊥
+  pub lone-none : FirstPicked v State Rivals false New → (c : Config) → FirstOf (JustOne (configsOf v)) c (configsOf v) → ⊥
   lone-none f c h =
       let r = first-some (JustOne (configsOf v)) (configsOf v) c h in
       let s = some-place v (JustOne (configsOf v)) (configCount v) (in-some (JustOne (configsOf v)) (configsOf v) c (r .0) (r .1)) in
-      f (s .0) (s .1) (lonely (s .0) (s .1) (s .2))
+      f (s .0) (s .1) (lonely (s .0) (s .2))
 
 -- ---- the reason
 

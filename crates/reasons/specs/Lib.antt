@@ -2,9 +2,7 @@
 pub mod Calls
 pub mod Replies
 pub mod First
-pub mod Marked
 pub mod Because
-pub mod Finds
 pub mod Clash
 pub mod Told
 pub mod Sentences

@@ -15,13 +15,15 @@ use Rattle.groups.specs.Reason.{Reason, stop, none, one, clash, reason}
 use Rattle.groups.specs.Reason.Laws.{reason-stop}
 use Rattle.grouping.specs.Clash.{configsOf}
 use Rattle.grouping.specs.Led.{Lent}
+use Rattle.grouping.specs.FirstMarked.{FirstPicked}
+use Rattle.grouping.specs.declared.inner.traits.Alike.the-variants.{State, Place}
+use Rattle.grouping.specs.declared.inner.marks.Picks.the-variants.{Rivals}
 use Rattle.setcheck.specs.declared.inner.keys.KeyPlace.the-variants.{At, New}
 use Rattle.outputs.specs.Outputs.{altsLength, padded}
 use Rattle.outputs.specs.Members.{altsAt}
 use Rattle.verdicts.specs.Calls.{VerdictReply, because}
 use Rattle.reasons.specs.Calls.{clashing, reasonWords}
-use Rattle.reasons.specs.Because.{because-none, because-one, because-clash}
-use Rattle.reasons.specs.Finds.{ClashAt, LoneAt}
+use Rattle.reasons.specs.Because.{clash-first, clash-none, lone-first, lone-none, because-none, because-one, because-clash}
 
 pub few : {v z : List ℕ} {i : ℕ} → Lent v z → i < configCount v → (length v ≡ setWordsLength) × (i < mostConfigs)
 few l h = (l .sized, omega (arith, l .few))
@@ -56,21 +58,22 @@ module _ (stops v o : List ℕ) where
     unfolding reasonWords clashing
     tells-stop e = tells stop (sym (reason-stop stops cs e)) (zero ∙ none-written)
 
-    pub tells-none : stopped stops cs ≡ false → ClashAt v New → Tells (because none)
+    pub tells-none : stopped stops cs ≡ false → FirstPicked v Place Rivals true New → Tells (because none)
     unfolding reasonWords clashing
-    tells-none go c = tells none (because-none stops cs go c) (zero ∙ none-written)
+    tells-none go c = tells none (because-none stops cs go (clash-none v c)) (zero ∙ none-written)
 
-    pub tells-one : stopped stops cs ≡ false → (i : ℕ) → ClashAt v (At i) → (j : ℕ) → LoneAt v (At j) → (s a : ℕ)
+    pub tells-one : stopped stops cs ≡ false → (i : ℕ) → FirstPicked v Place Rivals true (At i) → (j : ℕ) → FirstPicked v State Rivals false (At j) → (s a : ℕ)
         → s ≡ configAt v j .state → a ≡ configAt v j .alternative → Tells (because (one s a))
     unfolding reasonWords clashing subset
     tells-one go i c j l s a e f =
-        tells (one s a) (ap₂ one e f ∙ because-one stops cs go _ _ _ (c .2) (configAt v j) (l .1)) (zero ∙ none-written)
+        tells (one s a) (ap₂ one e f ∙ because-one stops cs go _ _ _ (clash-first v i c) (configAt v j) (lone-first v j l)) (zero ∙ none-written)
 
-  pub tells-clash : stopped stops cs ≡ false → (i : ℕ) → ClashAt v (At i) → LoneAt v New → o ≡ padded altsLength (length (altsAt v i) ∷ altsAt v i)
+  pub tells-clash : stopped stops cs ≡ false → (i : ℕ) → FirstPicked v Place Rivals true (At i) → FirstPicked v State Rivals false New
+      → o ≡ padded altsLength (length (altsAt v i) ∷ altsAt v i)
       → (s k : ℕ) → s ≡ configAt v i .state → k ≡ configAt v i .context → Tells (because (clash s k (take (getD o 0 0) (drop 1 o))))
   unfolding reasonWords clashing subset
   tells-clash go i c n q s k e f =
       let back = read-back (altsAt v i) o q in
       tells (clash s k (take (getD o 0 0) (drop 1 o)))
-      ((rw (e, f, back)) ∙ because-clash stops cs go _ _ _ (c .2) n)
+      ((rw (e, f, back)) ∙ because-clash stops cs go _ _ _ (clash-first v i c) (lone-none v n))
       (rw back q)

@@ -1,4 +1,3 @@
-// The walks behind the reason: no part of the public face.
-pub mod find;
-pub mod first;
+// The walk behind the reason: no part of the public face.
+pub mod clash;
 pub mod walk;

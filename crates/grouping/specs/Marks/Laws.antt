@@ -24,7 +24,7 @@ use Rattle.grouping.specs.Alike.{alikeOf, alikeAt, alike-kind}
 use Rattle.grouping.specs.Leads.{FirstAlike, leads-one}
 use Rattle.grouping.specs.Led.{leadersAt, marksAt, marksEnd, Lent, Led}
 use Rattle.grouping.specs.Led.Laws.{kin}
-use Rattle.grouping.specs.Marks.{picks, eachPicked, leaderAt, markAt, markedIf, Markable, Marked, AllMarked}
+use Rattle.grouping.specs.Marks.{picks, eachPicked, leaderAt, markAt, markedIf, Markable, Marked}
 use Rattle.grouping.specs.declared.inner.traits.Alike.{Alike}
 use Rattle.grouping.specs.declared.inner.marks.Picks.{Picks}
 use Rattle.grouping.specs.declared.inner.marks.Picks.the-variants.{Rivals, Holders}
@@ -191,15 +191,6 @@ module _ {v : List ℕ} {k : Alike} {p : Picks} {z u : List ℕ} (x : Led v k (c
       two (markAt u (leaderAt u i)) 0
       (λ q. rw (eq-eqb (markAt u (leaderAt u i)) 0 q) (sym (unserved i h (sym e ∙ q))))
       (λ q. rw (ne-eqb (markAt u (leaderAt u i)) 0 q) (sym (served i h (λ d. q (e ∙ d)))))
-
-  pub marks-tell : (r : Bool) → AllMarked n u r → r ≡ eachPicked k p cs
-  unfolding eachPicked
-  marks-tell true a =
-      sym (at-all (λ c. any (λ d. alikeOf k c d && picks p c d) cs) v n (λ i h. served i h (λ e. a i h (ap (markAt u) (same-leader i h) ∙ e))))
-  marks-tell false a =
-      sym (is-false (all (λ c. any (λ d. alikeOf k c d && picks p c d) cs) cs) (λ e.
-      never-both (all-at (λ c. any (λ d. alikeOf k c d && picks p c d) cs) v n e (a .0) (a .1))
-      (unserved (a .0) (a .1) (ap (markAt u) (sym (same-leader (a .0) (a .1))) ∙ a .2))))
 
 -- ---- as the code has it
 

@@ -5,6 +5,7 @@ use crate::inner::places::MARKS;
 use crate::inner::places::MARKS_END;
 use crate::inner::traits::Alike;
 use crate::inner::traits::alternative_of;
+use setcheck::inner::keys::KeyPlace;
 use setcheck::inner::read::config_count;
 use words::Alternative;
 ghost use mathlib.Core.Path.{_≡_};
@@ -14,7 +15,8 @@ ghost use Rattle.layout.specs.Layout.{scratchWords};
 ghost use Rattle.sets.specs.Layout.{configAt, configCount, mostConfigs, setWordsLength};
 ghost use Rattle.sets.specs.Words.{configsIn};
 ghost use Rattle.grouping.specs.Led.{Lent};
-ghost use Rattle.grouping.specs.Marks.{AllMarked, Markable, Marked, eachPicked, markedIf, picks};
+ghost use Rattle.grouping.specs.Marks.{Markable, Marked, eachPicked, markedIf, picks};
+ghost use Rattle.grouping.specs.FirstMarked.{FirstMarked, FirstPicked};
 
 // Which configs mark the first one: those with another alternative than it has, or those with this one.
 pub enum Picks {
@@ -60,21 +62,38 @@ pub fn mark_all(set: &[u32], scratch: &mut [u32], by: Picks)
     }
 }
 
-// Are all of them marked?
-fn all_marked(set: &[u32], scratch: &[u32]) -> bool
+// The first config, in set order, whose first one is marked, or is not.
+fn first_marked(set: &[u32], scratch: &[u32], marked: bool) -> KeyPlace
     requires { ⌜ Markable (now set) (now scratch) ⌝ }
-    ensures { λ r. ⌜ AllMarked (configCount (now (set .entry))) (now (scratch .entry)) r ⌝ }
+    ensures { λ r. ⌜ FirstMarked (configCount (now (set .entry))) (now (scratch .entry)) marked r ⌝ }
 {
     let count = config_count(set) as usize;
     let mut place = 0;
     while place < count {
         let leader = scratch[LEADERS + place] as usize;
-        if scratch[MARKS + leader] == 0 {
-            return false;
+        let found = scratch[MARKS + leader] != 0;
+        if found == marked {
+            return KeyPlace::At(place);
         }
         place += 1;
     }
-    true
+    KeyPlace::New
+}
+
+// The first config, in set order, that has one alike that is picked, or that has none.
+pub fn first_picked(
+    set: &[u32],
+    scratch: &mut [u32],
+    alike: Alike,
+    by: Picks,
+    has: bool,
+) -> KeyPlace
+    requires { ⌜ Lent (now set) (now scratch) ⌝ }
+    ensures { λ r. ⌜ FirstPicked (now (set .entry)) alike by has r × Lent (now (set .entry)) (now (scratch .exit)) ⌝ }
+{
+    let _ = lead_all(set, scratch, alike);
+    mark_all(set, scratch, by);
+    first_marked(set, scratch, has)
 }
 
 // Has every config one alike that is picked?
@@ -83,7 +102,9 @@ pub fn each_picked(set: &[u32], scratch: &mut [u32], alike: Alike, by: Picks) ->
     ensures { λ r. ⌜ (r ≡ eachPicked alike by (configsIn (now (set .entry)) (configCount (now (set .entry)))))
         × Lent (now (set .entry)) (now (scratch .exit)) ⌝ }
 {
-    let _ = lead_all(set, scratch, alike);
-    mark_all(set, scratch, by);
-    all_marked(set, scratch)
+    let without = first_picked(set, scratch, alike, by, false);
+    match without {
+        KeyPlace::At(_) => false,
+        KeyPlace::New => true,
+    }
 }

@@ -1,11 +1,12 @@
 // The reason for the verdict on the configs of a sound set.
 use crate::answers::Reason;
-use crate::inner::find::find_clash;
-use crate::inner::find::find_lone;
-use crate::inner::find::write_clash;
-use crate::inner::first::context_of;
+use crate::inner::clash::context_of;
+use crate::inner::clash::write_clash;
 use deciding::inner::verdict::all_stopped;
 use deciding::inner::verdict::state_of;
+use grouping::inner::marks::Picks;
+use grouping::inner::marks::first_picked;
+use grouping::inner::traits::Alike;
 use grouping::inner::traits::alternative_of;
 use setcheck::inner::keys::KeyPlace;
 use words::Alternative;
@@ -31,11 +32,11 @@ pub fn reason_of(set: &[u32], scratch: &mut [u32], stops: &[u32], output: &mut [
     if all_stopped(set, stops) {
         return Reason::Stop;
     }
-    let clash = find_clash(set, scratch);
+    let clash = first_picked(set, scratch, Alike::Place, Picks::Rivals, true);
     let KeyPlace::At(first) = clash else {
         return Reason::NoClash;
     };
-    let lone = find_lone(set, scratch);
+    let lone = first_picked(set, scratch, Alike::State, Picks::Rivals, false);
     if let KeyPlace::At(place) = lone {
         return Reason::One(
             state_of(set, place),

@@ -17,22 +17,36 @@ use Rattle.reasons.proofs.asked.why.Tie as tie
 returns : tie.Need-returns
 unfolding whyCall
 returns c =
-    short-output (c .before .before .before .before .before .before .args .store .now) (c .before .before .before .before .before .before .args .set .now) (c .before .before .before .before .before .before .args .scratch .now) altsLength (c .before .before .before .before .before .before .args .output .now) _ _ _ (c .if1 .taken)
+    let args = c .before .before .before .before .before .before .args in
+    let if1 = c .if1 in
+    short-output (args .store .now) (args .set .now) (args .scratch .now) altsLength (args .output .now) _ _ _ (if1 .taken)
 
 returns-2 : tie.Need-returns-2
 unfolding whyCall
 returns-2 c =
-    let e : c .before .before .before .before .before .open-set .result ≡ Refused (c .before .opened .given .0 .0) = cc in
-    left-refused (c .before .before .before .before .before .before .before .before .before .before .before .before .before .args .store .now) (c .before .before .before .before .before .before .before .before .before .before .before .before .before .args .set .now) (c .before .before .before .before .before .before .before .before .before .before .before .before .before .args .scratch .now) altsLength (c .before .before .before .before .before .before .before .before .before .before .before .before .before .args .output .now) _ _ (c .before .before .before .before .before .before .before .if1 .left) _
-    (c .before .opened .given .0 .0) (c .before .before .before .before .before .open-set .last .1 .1 .0) (rw e at (c .before .before .before .before .before .open-set .ensures))
+    let far = c .before .before .before .before .before .before .before .before .before .before .before .before in
+    let args = far .before .args in
+    let if1 = c .before .before .before .before .before .before .before .if1 in
+    let open-set = c .before .before .before .before .before .open-set in
+    let opened = c .before .opened in
+    let e : open-set .result ≡ Refused (opened .given .0 .0) = cc in
+    left-refused (args .store .now) (args .set .now) (args .scratch .now) altsLength (args .output .now) _ _ (if1 .left) _
+    (opened .given .0 .0) (open-set .last .1 .1 .0) (rw e at (open-set .ensures))
 
 returns-3 : tie.Need-returns-3
 unfolding whyCall
 returns-3 c =
-    let e : c .before .before .before .before .before .before .before .before .before .open-set .result ≡ ready = c .before .before .before .before .before .enum-told .given .1 in
-    let s = rw e at (c .before .before .before .before .before .before .before .before .before .open-set .ensures) in
-    left-due (c .before .before .before .before .before .before .before .before .before .before .before .before .before .before .before .before .before .args .store .now) (c .before .before .before .before .before .before .before .before .before .before .before .before .before .before .before .before .before .args .set .now) (c .before .before .before .before .before .before .before .before .before .before .before .before .before .before .before .before .before .args .scratch .now) altsLength (c .before .before .before .before .before .before .before .before .before .before .before .before .before .before .before .before .before .args .output .now) _ _ (c .before .before .before .before .before .before .before .before .before .before .before .if1 .left) (c .before .before .before .before .before .before .before .before .before .open-set .last .1 .1 .0) (c .before .before .clear .last .0)
-    (ready-lent (s .0) .lent) (c .before .before .clear .ensures) 10 (λ q. omega arith) _ (lt-ltb mostStops (length (c .before .before .before .before .before .before .before .before .before .before .before .before .before .before .before .before .before .args .stops .now)) (c .before .before .before .before .if2 .taken)) (c .before .before .before .before .before .before .before .before .before .open-set .last .1 .1 .0) s
+    let far = c .before .before .before .before .before .before .before .before .before .before .before .before in
+    let args = far .before .before .before .before .before .args in
+    let if1 = c .before .before .before .before .before .before .before .before .before .before .before .if1 in
+    let open-set = c .before .before .before .before .before .before .before .before .before .open-set in
+    let enum-told = c .before .before .before .before .before .enum-told in
+    let if2 = c .before .before .before .before .if2 in
+    let clear = c .before .before .clear in
+    let e : open-set .result ≡ ready = enum-told .given .1 in
+    let s = rw e at (open-set .ensures) in
+    left-due (args .store .now) (args .set .now) (args .scratch .now) altsLength (args .output .now) _ _ (if1 .left) (open-set .last .1 .1 .0) (clear .last .0)
+    (ready-lent (s .0) .lent) (clear .ensures) 10 (λ q. omega arith) _ (lt-ltb mostStops (length (args .stops .now)) (if2 .taken)) (open-set .last .1 .1 .0) s
 
 reason-of-requires : tie.Need-reason-of-requires
 reason-of-requires c κs =
@@ -43,11 +57,19 @@ reason-of-requires c κs =
 returns-4 : tie.Need-returns-4
 unfolding whyCall
 returns-4 c =
-    let e : c .before .before .before .before .before .before .before .before .before .before .before .before .before .before .before .before .open-set .result ≡ ready = c .before .before .before .before .before .before .before .before .before .before .before .before .enum-told .given .1 in
-    let s = rw e at (c .before .before .before .before .before .before .before .before .before .before .before .before .before .before .before .before .open-set .ensures) in
-    ap₂ (λ (r : VerdictReply) (o : List ℕ). verdictLeft r (c .before .before .clear2 .last .0) o) (c .before .before .before .before .before .before .before .before .reason-of .ensures .0) (c .before .before .before .before .before .before .before .before .reason-of .ensures .1)
-    ∙ left-passed (c .before .before .before .before .before .before .before .before .before .before .before .before .before .before .before .before .before .before .before .before .before .before .before .before .args .store .now) (c .before .before .before .before .before .before .before .before .before .before .before .before .before .before .before .before .before .before .before .before .before .before .before .before .args .set .now) (c .before .before .before .before .before .before .before .before .before .before .before .before .before .before .before .before .before .before .before .before .before .before .before .before .args .scratch .now) altsLength (c .before .before .before .before .before .before .before .before .before .before .before .before .before .before .before .before .before .before .before .before .before .before .before .before .args .output .now) _ _ (c .before .before .before .before .before .before .before .before .before .before .before .before .before .before .before .before .before .before .if1 .left) (c .before .before .before .before .before .before .before .before .reason-of .last .1 .0) (c .before .before .clear2 .last .0)
-    (c .before .before .before .before .before .before .before .before .reason-of .ensures .2 .lent) (c .before .before .clear2 .ensures) 10 _ (le-ltb mostStops (length (c .before .before .before .before .before .before .before .before .before .before .before .before .before .before .before .before .before .before .before .before .before .before .before .before .args .stops .now)) (c .before .before .before .before .before .before .before .before .before .before .before .if2 .left)) (c .before .before .before .before .before .before .before .before .before .before .before .before .before .before .before .before .open-set .last .1 .1 .0) s
+    let far = c .before .before .before .before .before .before .before .before .before .before .before .before in
+    let args = far .before .before .before .before .before .before .before .before .before .before .before .before .args in
+    let if1 = far .before .before .before .before .before .before .if1 in
+    let open-set = far .before .before .before .before .open-set in
+    let enum-told = far .enum-told in
+    let if2 = c .before .before .before .before .before .before .before .before .before .before .before .if2 in
+    let reason-of = c .before .before .before .before .before .before .before .before .reason-of in
+    let clear2 = c .before .before .clear2 in
+    let e : open-set .result ≡ ready = enum-told .given .1 in
+    let s = rw e at (open-set .ensures) in
+    ap₂ (λ (r : VerdictReply) (o : List ℕ). verdictLeft r (clear2 .last .0) o) (reason-of .ensures .0) (reason-of .ensures .1)
+    ∙ left-passed (args .store .now) (args .set .now) (args .scratch .now) altsLength (args .output .now) _ _ (if1 .left) (reason-of .last .1 .0) (clear2 .last .0)
+    (reason-of .ensures .2 .lent) (clear2 .ensures) 10 _ (le-ltb mostStops (length (args .stops .now)) (if2 .left)) (open-set .last .1 .1 .0) s
 
 pub why-spec : {M : Type 1} → statement M
 why-spec =

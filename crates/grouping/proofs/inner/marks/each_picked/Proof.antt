@@ -1,33 +1,27 @@
--- First ones, then marks, then the question.
+-- The first config without one is found, or there is none.
 use borrow.Author.Needs.{needs}
-use Rattle.grouping.specs.Marks.Laws.{markable, marked-able, marks-tell}
-use mathlib.Core.Path.{sym, _∙_}
+use mathlib.Core.Path.{_≡_}
+use Rattle.setcheck.specs.declared.inner.keys.KeyPlace.the-variants.{At, New}
+use Rattle.grouping.specs.FirstMarked.{each-served, one-not-served}
 use Rattle.grouping.proofs.inner.marks.each_picked.Statement.{statement}
 use Rattle.grouping.proofs.inner.marks.each_picked.Tie as tie
 
-mark-all-requires : tie.Need-mark-all-requires
-mark-all-requires c κs =
-    let lead-all = c .before .before .before .lead-all in
-    markable (lead-all .ensures .0)
-
-all-marked-requires : tie.Need-all-marked-requires
-all-marked-requires c κs =
-    let lead-all = c .before .before .before .before .before .before .before .lead-all in
-    let mark-all = c .before .before .before .mark-all in
-    marked-able (markable (lead-all .ensures .0)) (mark-all .ensures)
-
-same-length : tie.Need-same-length
-same-length c =
-    let mark-all = c .before .before .before .before .mark-all in
-    let pre = c .before .before .before .before .before .before .before .before .before .before .before .before .pre in
-    mark-all .ensures .lent ∙ sym (pre .lent)
-
 returns : tie.Need-returns
 returns c =
-    let lead-all = c .before .before .before .before .before .before .before .before .lead-all in
-    let mark-all = c .before .before .before .before .mark-all in
-    let able = marked-able (markable (lead-all .ensures .0)) (mark-all .ensures) in
-    (marks-tell (lead-all .ensures .0) (mark-all .ensures) (c .all-marked .result) (c .all-marked .ensures), able .words)
+    let found = c .before .before .before .before .first-picked in
+    let args = c .before .before .before .before .before .before .before .before .args in
+    let e : found .result ≡ At (c .enum-told .given .0 .0) = c .enum-told .given .1 in
+    (one-not-served (args .set .now) (args .alike) (args .by) _ (rw e at (found .ensures .0)), found .ensures .1)
+
+returns-2 : tie.Need-returns-2
+returns-2 c =
+    let found = c .before .before .before .before .first-picked in
+    let args = c .before .before .before .before .before .before .before .before .args in
+    let e : found .result ≡ New = c .enum-told2 .given .1 in
+    (each-served (args .set .now) (args .alike) (args .by) (rw e at (found .ensures .0)), found .ensures .1)
 
 pub each-picked-spec : {M : Type 1} → statement M
-each-picked-spec = tie.close (tie.spec (λ c κs. search needs) mark-all-requires all-marked-requires same-length returns)
+each-picked-spec =
+    tie.close
+    (tie.spec
+    (λ c κs. search needs) (λ c. search needs) (λ c. search needs) (λ c. search needs) returns (λ c. search needs) returns-2)

@@ -3,9 +3,9 @@ use borrow.Author.Needs.{needs}
 use Prim.Native.Nat.{_≤_, _+_, _-_}
 use native.Mathlib.Omega.{arith}
 use Rattle.sets.specs.Layout.{configCount}
-use Rattle.reasons.specs.Marked.{marks, NotYet, not-yet-more, beq-same, beq-other}
-use Rattle.reasons.proofs.inner.first.first_marked.Statement.{statement}
-use Rattle.reasons.proofs.inner.first.first_marked.Tie as tie
+use Rattle.grouping.specs.FirstMarked.{marks, NotYet, not-yet-more, beq-same, beq-other}
+use Rattle.grouping.proofs.inner.marks.first_marked.Statement.{statement}
+use Rattle.grouping.proofs.inner.marks.first_marked.Tie as tie
 
 abbrev Inv-loop : tie.InvT-loop
 Inv-loop set scratch marked count place₀ place = (place ≤ configCount set) × NotYet scratch marked place

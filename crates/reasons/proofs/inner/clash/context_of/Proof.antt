@@ -2,8 +2,8 @@
 use borrow.Author.Needs.{needs}
 use mathlib.Core.Path.{refl}
 use Rattle.sets.specs.Layout.{configAt, field}
-use Rattle.reasons.proofs.inner.first.context_of.Statement.{statement}
-use Rattle.reasons.proofs.inner.first.context_of.Tie as tie
+use Rattle.reasons.proofs.inner.clash.context_of.Statement.{statement}
+use Rattle.reasons.proofs.inner.clash.context_of.Tie as tie
 
 returns : tie.Need-returns
 unfolding configAt field

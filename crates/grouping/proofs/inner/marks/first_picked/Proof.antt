@@ -1,10 +1,10 @@
 -- First ones, then marks, then the first that is wanted.
 use borrow.Author.Needs.{needs}
+use Rattle.grouping.specs.Marks.Laws.{markable, marked-able}
+use Rattle.grouping.specs.FirstMarked.{first-picked}
 use mathlib.Core.Path.{sym, _∙_}
-use Rattle.grouping.specs.Marks.Laws.{markable, marked-able}
-use Rattle.reasons.specs.Finds.Laws.{clash-found}
-use Rattle.reasons.proofs.inner.find.find_clash.Statement.{statement}
-use Rattle.reasons.proofs.inner.find.find_clash.Tie as tie
+use Rattle.grouping.proofs.inner.marks.first_picked.Statement.{statement}
+use Rattle.grouping.proofs.inner.marks.first_picked.Tie as tie
 
 mark-all-requires : tie.Need-mark-all-requires
 mark-all-requires c κs =
@@ -28,7 +28,7 @@ returns c =
     let lead-all = c .before .before .before .before .before .before .before .before .lead-all in
     let mark-all = c .before .before .before .before .mark-all in
     let able = marked-able (markable (lead-all .ensures .0)) (mark-all .ensures) in
-    (clash-found (lead-all .ensures .0) (mark-all .ensures) (c .first-marked .result) (c .first-marked .ensures), able .words)
+    (first-picked (lead-all .ensures .0) (mark-all .ensures) _ (c .first-marked .result) (c .first-marked .ensures), able .words)
 
-pub find-clash-spec : {M : Type 1} → statement M
-find-clash-spec = tie.close (tie.spec (λ c κs. search needs) mark-all-requires first-marked-requires same-length returns)
+pub first-picked-spec : {M : Type 1} → statement M
+first-picked-spec = tie.close (tie.spec (λ c κs. search needs) mark-all-requires first-marked-requires same-length returns)

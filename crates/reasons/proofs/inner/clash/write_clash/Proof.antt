@@ -4,8 +4,8 @@ use native.Mathlib.Omega.{arith}
 use mathlib.Core.Path.{sym, ap, _∙_}
 use lib.ListN.{length, length-set}
 use Rattle.reasons.specs.Clash.{roomy, clash-written, clash-fits}
-use Rattle.reasons.proofs.inner.find.write_clash.Statement.{statement}
-use Rattle.reasons.proofs.inner.find.write_clash.Tie as tie
+use Rattle.reasons.proofs.inner.clash.write_clash.Statement.{statement}
+use Rattle.reasons.proofs.inner.clash.write_clash.Tie as tie
 
 write-members-requires : tie.Need-write-members-requires
 write-members-requires c κs =
