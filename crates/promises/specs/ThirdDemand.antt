@@ -16,7 +16,7 @@ use Rattle.interning.specs.SingletonCall.{singletonCall}
 use Rattle.interning.specs.Promises.{single-older-kept}
 use Rattle.contexts.specs.MergeCall.{mergeCall}
 use Rattle.contexts.specs.Promises.{equal-exactly, merge-is-union, older-kept, sides-exchanged}
-use Rattle.runs.specs.Runs.{Event, Run, Merges, SameContexts, Answers}
+use Rattle.runs.specs.Runs.{Event, Run, SameContexts, Answers}
 use Rattle.runs.specs.Growth.{run-grows}
 use Rattle.runs.specs.Grouping.{one-number}
 use Rattle.readers.specs.Calls.{Call, Lent, Sized}
@@ -40,7 +40,7 @@ pub shared-as-alone : (i : ℕ) (calls : List (By Call)) (lent lent′ : ℕ →
 shared-as-alone = as-if-alone
 
 -- "any order or grouping of full merges ends at one number": two answers of a run of accepted calls whose full merges go back to the same contexts
-pub any-order-or-grouping : {w v : List ℕ} {es : List Event} {x y : Merges} {c d : ℕ} → length w ≡ storeWords → sound w ≡ true → Run w es v
+pub any-order-or-grouping : {w v : List ℕ} {es : List Event} {x y : List ℕ} {c d : ℕ} → length w ≡ storeWords → sound w ≡ true → Run w es v
     → Answers es x c → Answers es y d → SameContexts x y → c ≡ d
 any-order-or-grouping = one-number
 

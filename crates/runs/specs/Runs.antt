@@ -1,7 +1,8 @@
 -- To believe: accepted calls made one after another in one store, and the contexts that the full merges behind an answer go back to.
 use mathlib.Core.Path.{_≡_}
+use mathlib.Core.Logic.{_↔_}
 use mathlib.Core.Bool.{Bool, false}
-use mathlib.Core.List.{List, [], _∷_}
+use mathlib.Core.List.{List, [], _∷_, _++_, List·Memᴰ}
 use Prim.Native.Nat.{ℕ}
 use Rattle.store.specs.Calls.{Reply, zeros, asked, Accepts}
 use Rattle.interning.specs.SingletonCall.{singletonCall}
@@ -30,23 +31,13 @@ pub data Run : List ℕ → List Event → List ℕ → Type 0 where
 
 -- ---- what full merges go back to
 
--- full merges, in any grouping, over contexts
-pub data Merges : Type 0 where
-  context : ℕ → Merges
-  both : Merges → Merges → Merges
+-- the number c is the answer of full merges that go back to the contexts xs, each merge made by a call of the run, in whatever order and grouping;
+-- sides may be used twice
+pub data Answers : List Event → List ℕ → ℕ → Type 0 where
+  named : {es : List Event} {c : ℕ} → Answers es (c ∷ []) c
+  called : {es : List Event} {xs ys : List ℕ} {a b c : ℕ} → Answers es xs a → Answers es ys b → Answers (merged false a b c ∷ es) (xs ++ ys) c
+  later : {e : Event} {es : List Event} {xs : List ℕ} {c : ℕ} → Answers es xs c → Answers (e ∷ es) xs c
 
--- c is one of the contexts merged
-pub data Names : ℕ → Merges → Type 0 where
-  here : {c : ℕ} → Names c (context c)
-  left : {c : ℕ} {x y : Merges} → Names c x → Names c (both x y)
-  right : {c : ℕ} {x y : Merges} → Names c y → Names c (both x y)
-
--- the same contexts are named, in any order, grouping and repetition
-abbrev pub SameContexts : Merges → Merges → Type 0
-SameContexts x y = ((c : ℕ) → Names c x → Names c y) × ((c : ℕ) → Names c y → Names c x)
-
--- the number c is the answer of the full merges x, each made by a call of the run, in whatever order; sides may be used twice
-pub data Answers : List Event → Merges → ℕ → Type 0 where
-  named : {es : List Event} {c : ℕ} → Answers es (context c) c
-  called : {es : List Event} {x y : Merges} {a b c : ℕ} → Answers es x a → Answers es y b → Answers (merged false a b c ∷ es) (both x y) c
-  later : {e : Event} {es : List Event} {x : Merges} {c : ℕ} → Answers es x c → Answers (e ∷ es) x c
+-- the same contexts, in any order and repetition
+abbrev pub SameContexts : List ℕ → List ℕ → Type 0
+SameContexts xs ys = (c : ℕ) → List·Memᴰ c xs ↔ List·Memᴰ c ys
