@@ -2,7 +2,7 @@
 -- Nothing here has to be believed.
 use mathlib.Core.Path.{_≡_, refl, sym, ap, _∙_}
 use mathlib.Core.Logic.{_↔_}
-use mathlib.Core.Bool.{Bool, true, false, _&&_, or-false, false≢true}
+use mathlib.Core.Bool.{Bool, true, false, _&&_, _||_, or-false, false≢true}
 use mathlib.Core.List.{List, [], _∷_, List·Memᴰ}
 use Prim.Native.Nat.{ℕ, _<_}
 use native.Mathlib.Omega.{arith}
@@ -15,7 +15,7 @@ use Rattle.stacks.specs.Merge.{isMark}
 use Rattle.arena.specs.Store.{Node, end, dollar, push, Store, treeOf, tree, nodeAt}
 use Rattle.arena.specs.Soundness.{Rise, Full, Sound}
 use Rattle.arena.specs.Trees.{node-sound, tree-node, tree-canon, tree-inj}
-use Rattle.arena.specs.Stands.{stands, entriesStand}
+use Rattle.arena.specs.Stands.{stands}
 
 -- Demand 3: equal numbers exactly when the same stacks.
 pub same-stacks : (s : Store) → Sound s → (a b : ℕ) → a < length s → b < length s
@@ -68,6 +68,14 @@ unfolding mem treeOf
 singleton-stands s w c r p h e =
     let is : tree s c ≡ over r (tree s p) none = tree-node s w c h ∙ ap (treeOf (tree s)) e in
     (rw is, λ x σ. rw is (or-false _))
+
+-- the stacks of a record's entries, one after the other: `$` is the empty stack, an entry its state on top of each stack of its parent
+unfoldable pub entriesStand : Store → Node → List ℕ → Bool
+entriesStand s end σ = false
+entriesStand s dollar [] = true
+entriesStand s dollar (x ∷ σ) = false
+entriesStand s (push r p n) [] = entriesStand s n []
+entriesStand s (push r p n) (x ∷ σ) = (eqb r x && stands s p σ) || entriesStand s n (x ∷ σ)
 
 treeOf-stands : (s : Store) (n : Node) (σ : List ℕ) → mem (treeOf (tree s) n) σ ≡ entriesStand s n σ
 unfolding mem treeOf entriesStand

@@ -1,7 +1,7 @@
 -- To believe: "New contexts take the next number: inner merges go in rising order of top state, each before the context above it, and nothing else is made."
 pub mod Laws
-use mathlib.Core.Bool.{Bool, true, false, _&&_}
-use mathlib.Core.List.{List, [], _∷_, _++_}
+use mathlib.Core.Bool.{true, false}
+use mathlib.Core.List.{List, [], _∷_, _++_, List·Memᴰ}
 use Prim.Native.Nat.{ℕ}
 use lib.Dec.{eqb}
 use lib.ListN.{length}
@@ -18,35 +18,16 @@ inner (over r b t) = inner b ++ (b ∷ inner t)
 unfoldable pub parts : Forest → List Forest
 parts F = inner F ++ (F ∷ [])
 
--- equal sets
-unfoldable pub alike : Forest → Forest → Bool
-alike none none = true
-alike none mark = false
-alike none (over s c u) = false
-alike mark none = false
-alike mark mark = true
-alike mark (over s c u) = false
-alike (over r b t) none = false
-alike (over r b t) mark = false
-alike (over r b t) (over s c u) = eqb r s && (alike b c && alike t u)
-
-unfoldable pub among : Forest → List Forest → Bool
-among F [] = false
-among F (G ∷ Gs) = elim (alike F G) [ true ↦ true | false ↦ among F Gs ]
-
 -- the sets of a store's contexts, the newest first
 unfoldable pub sets : Store → List Forest
 sets [] = []
 sets (n ∷ s) = treeOf (tree s) n ∷ sets s
 
--- a set takes the next number unless a context stands for it
-unfoldable pub joined : List Forest → Forest → List Forest
-joined known F = elim (among F known) [ true ↦ known | false ↦ F ∷ known ]
-
--- and so do several, one after the other
-unfoldable pub allJoined : List Forest → List Forest → List Forest
-allJoined known [] = known
-allJoined known (F ∷ Fs) = allJoined (joined known F) Fs
+-- sets taken one after the other: each takes the next number unless a context stands for it
+pub data Joins : List Forest → List Forest → List Forest → Type 0 where
+  done : {known : List Forest} → Joins known [] known
+  there : {known Fs after : List Forest} {F : Forest} → List·Memᴰ F known → Joins known Fs after → Joins known (F ∷ Fs) after
+  next : {known Fs after : List Forest} {F : Forest} → (List·Memᴰ F known → ⊥) → Joins (F ∷ known) Fs after → Joins known (F ∷ Fs) after
 
 -- ---- the list of sets is in the order of the numbers
 

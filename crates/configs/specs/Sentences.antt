@@ -1,6 +1,6 @@
 -- Document 01's sentences on sets, of the calls that are accepted. Nothing here has to be believed.
 use mathlib.Core.Path.{_≡_, refl, sym, ap, _∙_, subst}
-use mathlib.Core.Logic.{_≢_}
+use mathlib.Core.Logic.{_↔_, _≢_}
 use mathlib.Core.Bool.{Bool, true, false, not}
 use mathlib.Core.List.{List, [], _∷_, _++_}
 use Prim.Native.Nat.{ℕ, suc, _<_, _≤_, max}
@@ -40,7 +40,6 @@ use Rattle.sets.specs.Held.{HeldSet, words-held, held-words, held-set}
 use Rattle.sets.specs.Sound.{sound-good, held-sound, good-few}
 use Rattle.sets.specs.Joined.{joinedIf, joined-here, joined-other, joined-length, joined-at, only-key, held-here}
 use Rattle.sets.specs.Kept.{good-inserted, good-joined}
-use Rattle.store.specs.Checks.{Exactly}
 use Rattle.store.specs.Checks.Laws.{Clear, passed-clear, clear-passed}
 use Rattle.sets.specs.Refusals.{SoundLent, clear-lent, lent-clear, refusal-reply, fresh-refused-leaves}
 use Rattle.sets.specs.Calls.{SetReply, refused, done, added, SetLeft, setLeft, refusal, lentLengths, lentChecks, addChecks, freshSetCall, addCall, closeCall}
@@ -250,10 +249,10 @@ module _ (w v z : List ℕ) (x : Config) (a : ℕ) (w′ v′ : List ℕ) (ok : 
       (λ e. new (λ i l q. never-both (same-of-key x (configAt v i) (sym q)) (any-none (sameKey x) v (configCount v) e i l)))
 
   -- "merged" is answered, 0, exactly on a known key, and else "inserted", 1
-  pub answer-merged : Exactly (a ≡ 0) ((i : ℕ) × (i < configCount v) × (key (configAt v i) ≡ key x))
+  pub answer-merged : (a ≡ 0) ↔ ((i : ℕ) × (i < configCount v) × (key (configAt v i) ≡ key x))
   answer-merged = (λ e. key? (λ i l q. (i, l, q)) (λ n. absurd (omega (arith, inserted-answer n))), λ r. merged-answer (r .0) (r .1) (r .2))
 
-  pub answer-inserted : Exactly (a ≡ 1) ((i : ℕ) → i < configCount v → key (configAt v i) ≡ key x → ⊥)
+  pub answer-inserted : (a ≡ 1) ↔ ((i : ℕ) → i < configCount v → key (configAt v i) ≡ key x → ⊥)
   answer-inserted = (λ e i l q. omega (arith, merged-answer i l q), inserted-answer)
 
   -- store and set are sound afterwards, the flags that the configs decide included

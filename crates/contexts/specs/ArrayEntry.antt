@@ -13,7 +13,7 @@ use Rattle.layout.specs.Layout.{storeWords, first, second, parent, state}
 use Rattle.layout.specs.Scratch.{stackParent, stackState}
 use Rattle.layout.specs.Decode.{storeOf}
 use Rattle.interning.specs.Live.{live-length}
-use Rattle.interning.specs.Write.{many-room}
+use Rattle.arena.specs.Kinds.Laws.{room-many}
 use Rattle.contexts.specs.EntriesFrom.{headParent, headState, rest}
 use Rattle.contexts.specs.StackAhead.{onto}
 use Rattle.contexts.specs.Ends.{ends, ends-inner, ends-le}
@@ -47,7 +47,7 @@ module _ {m : Bool} {w₀ z₀ : List ℕ} {a b top : ℕ} (p : ArrayAndEntry m 
 
   -- a parent's record ends before the array's entries
   ends-left : (i : ℕ) → ends (storeOf w₀) (headParent (rest (nodeAt (storeOf w₀) a) i)) + size (nodeAt (storeOf w₀) a) ≤ ends (storeOf w₀) a
-  ends-left i = rw (← many-room (nodeAt (storeOf w₀) a) array-two)
+  ends-left i = rw (← room-many (nodeAt (storeOf w₀) a) array-two)
       (ends-inner (storeOf w₀) a _ (v₀ .left) (head-before (v₀ .live) a (v₀ .left) (array-positive (v₀ .live) a (v₀ .left) (p .left)) i))
 
   -- the one entry, from place 0 on

@@ -13,7 +13,7 @@ use Rattle.layout.specs.Layout.{storeWords, first, second, parent, state}
 use Rattle.layout.specs.Scratch.{stackParent, stackState}
 use Rattle.layout.specs.Decode.{storeOf}
 use Rattle.interning.specs.Live.{live-length}
-use Rattle.interning.specs.Write.{many-room}
+use Rattle.arena.specs.Kinds.Laws.{room-many}
 use Rattle.contexts.specs.EntriesFrom.{headParent, rest}
 use Rattle.contexts.specs.StackAhead.{onto}
 use Rattle.contexts.specs.Ends.{ends, ends-inner}
@@ -46,11 +46,11 @@ module _ {m : Bool} {w₀ z₀ : List ℕ} {a b top : ℕ} (p : TwoArrays m w₀
 
   -- a parent's record ends before the array's entries
   ends-left : (i : ℕ) → ends (storeOf w₀) (headParent (rest (nodeAt (storeOf w₀) a) i)) + size (nodeAt (storeOf w₀) a) ≤ ends (storeOf w₀) a
-  ends-left i = rw (← many-room (nodeAt (storeOf w₀) a) left-long)
+  ends-left i = rw (← room-many (nodeAt (storeOf w₀) a) left-long)
       (ends-inner (storeOf w₀) a _ (v₀ .left) (head-before (v₀ .live) a (v₀ .left) (array-positive (v₀ .live) a (v₀ .left) (p .left)) i))
 
   ends-right : (j : ℕ) → ends (storeOf w₀) (headParent (rest (nodeAt (storeOf w₀) b) j)) + size (nodeAt (storeOf w₀) b) ≤ ends (storeOf w₀) b
-  ends-right j = rw (← many-room (nodeAt (storeOf w₀) b) right-long)
+  ends-right j = rw (← room-many (nodeAt (storeOf w₀) b) right-long)
       (ends-inner (storeOf w₀) b _ (v₀ .right) (head-before (v₀ .live) b (v₀ .right) (array-positive (v₀ .live) b (v₀ .right) (p .right)) j))
 
   module _ {w z : List ℕ} {i j n : ℕ} (g : Go m w₀ z₀ a b top w z i j n) where

@@ -1,16 +1,13 @@
 -- To believe: the call that merges two contexts, as a function of what came in: document 01's table in its order of checking.
 pub mod Laws
-use mathlib.Core.Logic.{_⊎_}
 use mathlib.Core.Bool.{Bool, not, _&&_}
 use mathlib.Core.List.{List, [], _∷_}
-use Prim.Native.Nat.{ℕ, _≤_}
+use Prim.Native.Nat.{ℕ}
 use lib.Dec.{ltb}
 use Rattle.arena.specs.Place.{mergeS}
 use Rattle.layout.specs.Layout.{count as contexts}
-use Rattle.layout.specs.Ceilings.{Fits}
 use Rattle.layout.specs.Decode.{storeOf}
-use Rattle.store.specs.Checks.{Check, given, unless, Reason, reason}
-use Rattle.store.specs.Reasons.{storeReasons}
+use Rattle.store.specs.Checks.{Check, given, unless}
 use Rattle.store.specs.Calls.{Left, refusal, wrongLength, unsoundStore, noRoom, made}
 
 -- the merge of a and b, by wildcard or full-context; 4: one of the two numbers is not below the count
@@ -20,8 +17,3 @@ mergeChecks w z a b m =
 
 unfoldable pub mergeCall : List ℕ → List ℕ → ℕ → ℕ → Bool → Left
 mergeCall w z a b m = unless (mergeChecks w z a b m) (refusal w z) (made (mergeS m (storeOf w) a b))
-
--- the reasons in words
-abbrev pub mergeReasons : List ℕ → List ℕ → ℕ → ℕ → Bool → List Reason
-mergeReasons w z a b m =
-    storeReasons w z (reason 4 ((contexts w ≤ a) ⊎ (contexts w ≤ b)) ∷ reason 6 (Fits (mergeS m (storeOf w) a b .1) → ⊥) ∷ [])

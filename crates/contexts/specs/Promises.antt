@@ -2,7 +2,7 @@
 -- store knows the number; older sets kept; the numbering rule; sides exchanged; a refused one exactly when, and with nothing changed; its
 -- outcome determined. Nothing here has to be believed.
 use mathlib.Core.Path.{_≡_, refl, sym, ap, _∙_}
-use mathlib.Core.Logic.{_↔_, _⊎_}
+use mathlib.Core.Logic.{_↔_}
 use mathlib.Core.Bool.{Bool, true, false, not, _&&_, _||_}
 use mathlib.Core.List.{List, [], _∷_}
 use Prim.Native.Nat.{ℕ, _<_, _≤_}
@@ -14,14 +14,14 @@ use Rattle.stacks.specs.Forest.{Forest, mem, Canon}
 use Rattle.stacks.specs.Merge.{mergeT}
 use Rattle.stacks.specs.Rules.{MergeRule, WildcardMerge}
 use Rattle.stacks.specs.Rules.Laws.{merge-rule}
-use Rattle.arena.specs.Store.{Store, tree}
+use Rattle.arena.specs.Store.{Store, tree, at}
 use Rattle.arena.specs.Trees.{tree-canon}
 use Rattle.arena.specs.Stands.{stands}
 use Rattle.arena.specs.Identity.{same-stacks}
 use Rattle.arena.specs.Place.{mergeS}
 use Rattle.arena.specs.Placed.{grew-tree, grew-length}
 use Rattle.arena.specs.Steps.{merge-holds, merge-grew, merge-same, merge-sides}
-use Rattle.arena.specs.Numbering.{parts, sets, allJoined}
+use Rattle.arena.specs.Numbering.{parts, sets, Joins}
 use Rattle.arena.specs.Numbering.Laws.{merge-numbers}
 use Rattle.arena.specs.Below.Laws.{tree-below, merge-below, place-below}
 use Rattle.layout.specs.Layout.{storeWords, stop, count as contexts}
@@ -33,18 +33,16 @@ use Rattle.encoding.specs.Good.{GoodStore}
 use Rattle.encoding.specs.Decoded.{decoded}
 use Rattle.encoding.specs.Decide.{sound}
 use Rattle.encoding.specs.Decide.Laws.{sound-true}
-use Rattle.store.specs.Checks.{given, Exactly, reason, DueBy}
-use Rattle.store.specs.Checks.Laws.{once, absent}
-use Rattle.store.specs.Reasons.Laws.{store-decides, both-decide, room-decides}
-use Rattle.store.specs.Calls.{refused, Left, leaves, noRoom, made, Accepts, Keeps}
-use Rattle.store.specs.Calls.Laws.{refused-by, refused-keeps, accepted, right-lengths, is-sound, both-known, has-room}
+use Rattle.store.specs.Checks.{order, inOrder, due}
+use Rattle.store.specs.Calls.{refused, Left, leaves, refusal, made, Accepts}
+use Rattle.store.specs.Calls.Laws.{refused-exactly, refused-leaves, accepted, right-lengths, is-sound, both-known, has-room}
 use Rattle.store.specs.Nested.{ifKnown, grown}
 use Rattle.store.specs.Admit.{known-goes, unknown}
 use Rattle.interning.specs.SingletonCall.Laws.{checked-agree}
 use Rattle.interning.specs.Replies.{numbered}
 use Rattle.interning.specs.Promises.{After, after-of, no-refusal, call-determined}
 use Rattle.interning.specs.declared.single.Numbered.{Numbered}
-use Rattle.contexts.specs.MergeCall.{mergeChecks, mergeCall, mergeReasons}
+use Rattle.contexts.specs.MergeCall.{mergeChecks, mergeCall}
 use Rattle.contexts.specs.MergeCall.Laws.{merge-nested}
 
 -- ---- an accepted merge
@@ -140,8 +138,8 @@ module _ (w z : List ℕ) (a b : ℕ) (m : Bool) (c : ℕ) (w′ : List ℕ) (ok
       (rw (store-length w′ (contexts w′)) at there, λ σ. ap (λ (F : Forest). mem F σ) ((rw store-after) ∙ grew-tree (storeOf w) _ g k old))
 
   -- "New contexts take the next number: inner merges go in rising order of top state, each before the context above it, and nothing else is made."
-  pub merge-numbers-after : sets (storeOf w′) ≡ allJoined (sets (storeOf w)) (parts (mergeT m (tree (storeOf w) a) (tree (storeOf w) b)))
-  merge-numbers-after = ap sets store-after ∙ merge-numbers m (storeOf w) (passed .good .sound) a b ha hb
+  pub merge-numbers-after : Joins (sets (storeOf w)) (parts (mergeT m (tree (storeOf w) a) (tree (storeOf w) b))) (sets (storeOf w′))
+  merge-numbers-after = rw store-after (merge-numbers m (storeOf w) (passed .good .sound) a b ha hb)
 
 -- An accepted full-context merge stands for the union of its sides.
 pub merge-is-union : (w z : List ℕ) (a b c : ℕ) (w′ : List ℕ) → Accepts (mergeCall w z a b false) c w′
@@ -186,21 +184,18 @@ equal-exactly w l s a b h k =
 
 -- ---- a refused merge: exactly when, and with nothing changed
 
-pub merge-refused-exactly : (w z : List ℕ) (a b : ℕ) (m : Bool) (n : ℕ) → Exactly (mergeCall w z a b m .reply ≡ refused n) (DueBy n (mergeReasons w z a b m))
-unfolding mergeCall mergeChecks once absent
-merge-refused-exactly w z a b m n =
-    let x = mergeS m (storeOf w) a b in
-    let room = noRoom (x .1) ∷ [] in
-    let because = reason 6 (Fits (x .1) → ⊥) ∷ [] in
-    refused-by w z (mergeChecks w z a b m) (made x) (no-refusal x) refl (mergeReasons w z a b m)
-    (store-decides w z (given 4 (not (ltb a (contexts w) && ltb b (contexts w))) ∷ room) (reason 4 ((contexts w ≤ a) ⊎ (contexts w ≤ b)) ∷ because)
-    (λ l s. both-decide w a b room because (λ h k. room-decides (x .1)))) n
+module _ (w z : List ℕ) (a b : ℕ) (m : Bool) (n : ℕ) where
+  pub merge-refused-exactly : (mergeCall w z a b m .reply ≡ refused n) ↔ (due (mergeChecks w z a b m) ≡ at n)
+  unfolding mergeCall
+  merge-refused-exactly = let x = mergeS m (storeOf w) a b in refused-exactly w z (mergeChecks w z a b m) (made x) (no-refusal x) n
 
-pub merge-refused-keeps : (w z : List ℕ) (a b : ℕ) (m : Bool) (n : ℕ) → mergeCall w z a b m .reply ≡ refused n → Keeps w z n (mergeCall w z a b m)
-unfolding mergeCall
-merge-refused-keeps w z a b m n =
-    let x = mergeS m (storeOf w) a b in
-    refused-keeps w z (mergeChecks w z a b m) (made x) (no-refusal x) n
+  pub merge-refused-leaves : mergeCall w z a b m .reply ≡ refused n → mergeCall w z a b m ≡ refusal w z n
+  unfolding mergeCall
+  merge-refused-leaves = let x = mergeS m (storeOf w) a b in refused-leaves w z (mergeChecks w z a b m) (made x) (no-refusal x) n
+
+  pub merge-in-order : inOrder order (mergeChecks w z a b m) ≡ true
+  unfolding mergeChecks inOrder
+  merge-in-order = refl
 
 -- ---- any two outcomes that satisfy the contract for the same input are equal
 

@@ -12,7 +12,7 @@ use Rattle.arena.specs.Placed.{Grew, grew-length}
 use Rattle.layout.specs.Layout.{count, kind, first, second, parent, state}
 use Rattle.layout.specs.Decode.{storeOf}
 use Rattle.interning.specs.Live.{Live, live-sound, live-count, live-length}
-use Rattle.interning.specs.Write.{many-room}
+use Rattle.arena.specs.Kinds.Laws.{room-many}
 use Rattle.contexts.specs.EntriesFrom.{headState, headParent, rest, rest-rise, head-older}
 use Rattle.contexts.specs.Ends.{ends, ends-room, grew-nodeAt}
 use Rattle.contexts.specs.WithRest.{array-size, array-entry, array-within}
@@ -39,7 +39,7 @@ module _ {w z : List ℕ} (v : Live w z) (c : ℕ) (h : c < length (storeOf w)) 
 
   -- an array's entries fit before where its record ends
   pub array-ends : kind w c ≡ 2 → size (nodeAt (storeOf w) c) ≤ ends (storeOf w) c
-  array-ends k = rw (← many-room (nodeAt (storeOf w) c) (array-long k)) (ends-room (storeOf w) c h)
+  array-ends k = rw (← room-many (nodeAt (storeOf w) c) (array-long k)) (ends-room (storeOf w) c h)
 
   -- the parent of an entry is older
   pub head-before : 0 < c → (i : ℕ) → headParent (rest (nodeAt (storeOf w) c) i) < c

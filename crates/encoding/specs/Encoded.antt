@@ -9,17 +9,16 @@ use Rattle.cases.specs.Numbers.{two}
 use Rattle.arena.specs.Store.{Node, end, dollar, push, Store, nodeAt}
 use Rattle.arena.specs.Soundness.{Rise, Full, Sound}
 use Rattle.arena.specs.Trees.{node-new, node-old, node-sound, nodes-differ}
-use Rattle.arena.specs.Kinds.{kindOf, size}
+use Rattle.arena.specs.Kinds.{size}
 use Rattle.arena.specs.Room.{room, pool}
 use Rattle.arena.specs.Below.{NodeBelow, StoreBelow}
 use Rattle.layout.specs.Layout.{stop, count, used, kind, first, second, parent, state}
-use Rattle.layout.specs.Listing.{listing}
-use Rattle.layout.specs.Listing.Laws.{listing-agree, Entries}
+use Rattle.layout.specs.Listing.Laws.{Entries}
 use Rattle.layout.specs.Decode.{nodeIn, storeIn, storeOf}
 use Rattle.layout.specs.Decode.Laws.{store-node, node-zero, node-one, node-many}
-use Rattle.layout.specs.Sound.{SoundWords, Parent, ofSingleton, ofEntry, SameSingletons, SameArrays, lengths}
+use Rattle.layout.specs.Sound.{SoundWords, Parent, ofSingleton, ofEntry}
 use Rattle.layout.specs.Encode.{wordsOf}
-use Rattle.encoding.specs.Reads.{lengths-zero, lengths-one, lengths-two}
+use Rattle.encoding.specs.Reads.{lengths, lengths-zero, lengths-one, lengths-two, Sized, zeroth, single, several, lengths-pool-of}
 use Rattle.encoding.specs.Good.{GoodStore}
 use Rattle.encoding.specs.Filled.{Filled, filled-listing, filled-entries}
 use Rattle.encoding.specs.Held.{kindWord, firstWord, secondWord, inPool, Recorded, Records, Held}
@@ -48,7 +47,7 @@ records-store w (n ∷ s) r v b =
 -- ---- where the pool entries of a record start
 
 recorded-lengths : (w : List ℕ) (c i : ℕ) (n : Node) → Recorded w c i n → lengths w (suc c) ≡ lengths w c + room n
-unfolding kindWord secondWord size room kindOf
+unfolding kindWord secondWord size room
 recorded-lengths w c i end r = lengths-zero w c (r .kinds) ∙ (omega arith)
 recorded-lengths w c i dollar r = lengths-zero w c (r .kinds) ∙ (omega arith)
 recorded-lengths w c i (push q p end) r = lengths-one w c (r .kinds) ∙ (omega arith)
@@ -126,18 +125,6 @@ parent-older : (w : List ℕ) (c : ℕ) → (kind w c ≡ 1 → first w c < c) �
 parent-older w c one many p (ofSingleton e) = one e
 parent-older w c one many p (ofEntry e j h) = many e .older (first w c + j) (omega arith) (omega arith)
 
--- ---- records of the same meaning read alike
-
-same-singletons : (w : List ℕ) (c d : ℕ) → SameSingletons w c d → nodeIn w c ≡ nodeIn w d
-same-singletons w c d v = node-one w c (v .kinds .0) ∙ (rw (v .parents, v .states)) ∙ sym (node-one w d (v .kinds .1))
-
-same-arrays : (w : List ℕ) (c d : ℕ) → SameArrays w c d → nodeIn w c ≡ nodeIn w d
-same-arrays w c d v =
-    node-many w c (v .kinds .0)
-    ∙ listing-agree (state w) (parent w) (state w) (parent w) (first w c) (first w d) (second w c) (λ j h. (v .states j h, v .parents j h))
-    ∙ ap (listing (state w) (parent w) (first w d)) (v .lengths)
-    ∙ sym (node-many w d (v .kinds .1))
-
 -- ---- words that hold a good store are sound
 
 module _ (w : List ℕ) (s : Store) (v : Held w s) (g : GoodStore s) where
@@ -175,6 +162,18 @@ module _ (w : List ℕ) (s : Store) (v : Held w s) (g : GoodStore s) where
   many : (c : ℕ) → c < count w → kind w c ≡ 2 → Array w c (lengths w c)
   many c h e = recorded-array w c (lengths w c) (nodeAt s c) (at c h) (good c h .rise) (good c h .below) e
 
+  kinds : (c : ℕ) → 0 < c → c < count w → (kind w c ≡ 1) ⊎ (kind w c ≡ 2)
+  kinds c h l = recorded-kinds w c (lengths w c) (nodeAt s c) (at c l) (good c l .full) (not-root c h l)
+
+  root : (kind w 0 ≡ 0) × (first w 0 ≡ 0) × (second w 0 ≡ 0)
+  root = recorded-dollar w 0 (lengths w 0) (nodeAt s 0) (at 0 (omega (arith, g .some, v .counts))) root-node
+
+  sized : (c : ℕ) → c < count w → Sized w c
+  sized c h =
+      two c 0
+      (λ z. zeroth (rw z (root .0)))
+      (λ n. ⊎-elim (λ e. single e) (λ e. several e (many c h e .long) (many c h e .entries)) (kinds c (omega arith) h))
+
   reads-differ : (c d : ℕ) → c < d → d < count w → nodeIn w c ≡ nodeIn w d → ⊥
   reads-differ c d h l e =
       let is : (b : ℕ) → b < count w → nodeAt s b ≡ nodeIn w b =
@@ -187,8 +186,8 @@ module _ (w : List ℕ) (s : Store) (v : Held w s) (g : GoodStore s) where
       let u : used w ≡ pool s = v .uses in
       record {
         counted = (omega (arith, g .some), omega (arith, g .fits), omega (arith, g .fits));
-        root = recorded-dollar w 0 (lengths w 0) (nodeAt s 0) (at 0 (omega (arith, g .some))) root-node;
-        kinds = λ c h l. recorded-kinds w c (lengths w c) (nodeAt s c) (at c l) (good c l .full) (not-root c h l);
+        root = root;
+        kinds = kinds;
         older = λ c p h. parent-older w c (λ e. one c h e .0) (λ e. many c h e .entries) p;
         single = λ c h e. omega (arith, one c h e .1);
         long = λ c h e. many c h e .long;
@@ -197,9 +196,9 @@ module _ (w : List ℕ) (s : Store) (v : Held w s) (g : GoodStore s) where
             omega (arith, many c h e .entries .rise (first w c + j) (omega arith) (omega arith), ap (state w) step);
         dollar = λ c j h e l. many c h e .entries .dollar (first w c + j) (omega arith) (omega arith);
         fit = λ c j h e l. many c h e .entries .fit (first w c + j) (omega arith) (omega arith);
-        filled = λ c h e. many c h e .starts;
-        allUsed = u ∙ sym (records-lengths w s (v .records)) ∙ ap (lengths w) (sym n);
-        differ = λ c d h l. ⊎-elim (λ q. reads-differ c d h l (same-singletons w c d q)) (λ q. reads-differ c d h l (same-arrays w c d q));
+        filled = λ c h e. many c h e .starts ∙ lengths-pool-of w c (λ d l. sized d (omega arith));
+        allUsed = u ∙ ap pool (sym held-store);
+        differ = reads-differ;
         unusedRecords = λ i h l. v .noRecords i (omega arith) l;
         unusedParents = λ i h l. v .noParents i (omega arith) l;
         unusedStates = λ i h l. v .noStates i (omega arith) l;

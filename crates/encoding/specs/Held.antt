@@ -7,7 +7,7 @@ use lib.ListN.{length, getD}
 use lib.Seq.{ext-getD}
 use Rattle.cases.specs.Numbers.{two, below?}
 use Rattle.arena.specs.Store.{Node, end, dollar, push, Store}
-use Rattle.arena.specs.Kinds.{kindOf, size}
+use Rattle.arena.specs.Kinds.{size}
 use Rattle.arena.specs.Room.{room, pool}
 use Rattle.layout.specs.Layout.{storeWords, count, used, kind, first, second, parent, state}
 use Rattle.encoding.specs.Places.{by-place}
@@ -44,7 +44,7 @@ inPool (push r p dollar) = push r p dollar
 inPool (push r p (push q o n)) = push r p (push q o n)
 
 pub size-inPool : (n : Node) → size (inPool n) ≡ room n
-unfolding inPool room kindOf size
+unfolding inPool room size
 size-inPool end = refl
 size-inPool dollar = refl
 size-inPool (push r p end) = refl

@@ -1,15 +1,30 @@
 -- What sound words say of one record: its kind, and the words that go with that kind. Nothing here has to be believed.
-use mathlib.Core.Path.{_≡_, sym, ap, _∙_}
+use mathlib.Core.Path.{_≡_, refl, sym, ap, _∙_}
 use mathlib.Core.Logic.{_⊎_, inl, inr}
 use mathlib.Core.List.{List}
 use Prim.Native.Nat.{ℕ, zero, suc, _<_, _≤_, _+_, _-_}
 use native.Mathlib.Omega.{arith}
 use Rattle.cases.specs.Numbers.{two}
 use Rattle.layout.specs.Layout.{stop, count, used, kind, first, second, parent, state}
-use Rattle.layout.specs.Listing.Laws.{Entries}
-use Rattle.layout.specs.Sound.{SoundWords, ofSingleton, ofEntry, lengths}
+use Rattle.arena.specs.Kinds.{size}
+use Rattle.arena.specs.Kinds.Laws.{room-many}
+use Rattle.arena.specs.Room.{room, pool}
+use Rattle.layout.specs.Listing.Laws.{Entries, listing-size}
+use Rattle.layout.specs.Decode.{nodeIn, storeIn}
+use Rattle.layout.specs.Decode.Laws.{node-zero, node-one, node-many}
+use Rattle.layout.specs.Sound.{SoundWords, ofSingleton, ofEntry}
 
 -- ---- the pool entries of the first records
+
+-- the pool entries of the arrays among the first c records
+unfoldable pub lengths : List ℕ → ℕ → ℕ
+lengths w zero = 0
+lengths w (suc c) = lengths w c + arrayLength (kind w c) (second w c)
+  where
+    arrayLength : ℕ → ℕ → ℕ
+    arrayLength zero b = 0
+    arrayLength (suc zero) b = 0
+    arrayLength (suc (suc k)) b = b
 
 module _ (w : List ℕ) (c : ℕ) where
   pub lengths-zero : kind w c ≡ 0 → lengths w (suc c) ≡ lengths w c
@@ -73,5 +88,42 @@ module _ (w : List ℕ) (v : SoundWords w) (c : ℕ) (h : c < count w) where
         dollar = λ j a b s. sym (ap (parent w) (at j a)) ∙ v .dollar c (j - first w c) h e (omega arith) (ap (state w) (at j a) ∙ s);
       }
 
-  pub array-fits : kind w c ≡ 2 → first w c + second w c ≤ used w
-  array-fits e = omega (arith, v .filled c h e, v .allUsed, lengths-two w c e, lengths-le w (suc c) (count w) h)
+-- ---- the pool entries of the first records, by the words and by the store
+
+-- a record of kind 0, of kind 1, or of kind 2 with two or more sound entries
+pub data Sized (w : List ℕ) (c : ℕ) : Type 0 where
+  zeroth : kind w c ≡ 0 → Sized w c
+  single : kind w c ≡ 1 → Sized w c
+  several : kind w c ≡ 2 → 2 ≤ second w c → Entries (state w) (parent w) (first w c) (second w c) c → Sized w c
+
+pub node-many-size : (w : List ℕ) (c : ℕ) → kind w c ≡ 2 → Entries (state w) (parent w) (first w c) (second w c) c → size (nodeIn w c) ≡ second w c
+node-many-size w c e v = ap size (node-many w c e) ∙ listing-size (state w) (parent w) (first w c) (second w c) c v
+
+sized-lengths : (w : List ℕ) (c : ℕ) → Sized w c → lengths w (suc c) ≡ lengths w c + room (nodeIn w c)
+unfolding room
+sized-lengths w c (zeroth e) = lengths-zero w c e ∙ (rw (node-zero w c e) (omega arith))
+sized-lengths w c (single e) = lengths-one w c e ∙ (rw (node-one w c e) (omega arith))
+sized-lengths w c (several e h v) =
+    let q : size (nodeIn w c) ≡ second w c = node-many-size w c e v in
+    lengths-two w c e ∙ ap (λ (k : ℕ). lengths w c + k) (sym (room-many (nodeIn w c) (omega arith) ∙ q))
+
+pub lengths-pool-of : (w : List ℕ) (c : ℕ) → ((d : ℕ) → d < c → Sized w d) → lengths w c ≡ pool (storeIn w c)
+unfolding lengths storeIn pool
+lengths-pool-of w zero h = refl
+lengths-pool-of w (suc c) h = sized-lengths w c (h c (omega arith)) ∙ (rw (lengths-pool-of w c (λ d l. h d (omega arith))))
+
+module _ (w : List ℕ) (v : SoundWords w) where
+  sound-sized : (c : ℕ) → c < count w → Sized w c
+  sound-sized c h = kind? w v c h zeroth single (λ e. several e (v .long c h e) (array-entries w v c h e))
+
+  lengths-pool : (c : ℕ) → c ≤ count w → lengths w c ≡ pool (storeIn w c)
+  lengths-pool c h = lengths-pool-of w c (λ d l. sound-sized d (omega arith))
+
+  pub first-lengths : (c : ℕ) → c < count w → kind w c ≡ 2 → first w c ≡ lengths w c
+  first-lengths c h e = v .filled c h e ∙ sym (lengths-pool c (omega arith))
+
+  pub used-lengths : used w ≡ lengths w (count w)
+  used-lengths = v .allUsed ∙ sym (lengths-pool (count w) (omega arith))
+
+  pub array-fits : (c : ℕ) → c < count w → kind w c ≡ 2 → first w c + second w c ≤ used w
+  array-fits c h e = omega (arith, first-lengths c h e, used-lengths, lengths-two w c e, lengths-le w (suc c) (count w) h)

@@ -1,5 +1,6 @@
 -- The figures are the four calls' answers, and are refused exactly when the verdict is; any two answers are equal. Nothing here has to be believed.
 use mathlib.Core.Path.{_≡_, refl, sym, ap, _∙_}
+use mathlib.Core.Logic.{_↔_}
 use mathlib.Core.Bool.{Bool, true, false, _&&_}
 use mathlib.Core.List.{List, [], _∷_}
 use Prim.Native.Nat.{ℕ, _<_}
@@ -12,18 +13,17 @@ use Rattle.words.specs.Refusals.{number}
 use Rattle.words.specs.declared.refusals.Refusal.{Refusal}
 use Rattle.store.specs.Calls.{zeros, refused as storeRefused}
 use Rattle.store.specs.Told.{number-tells}
-use Rattle.store.specs.Checks.{Check, given, unless, Exactly, reason}
-use Rattle.store.specs.Checks.Laws.{absent, once, Clear, Decides, passed-clear, clear-passed}
+use Rattle.store.specs.Checks.{Check, given, unless}
+use Rattle.store.specs.Checks.Laws.{Clear, passed-clear, clear-passed}
 use Rattle.sets.specs.Config.{Config}
 use Rattle.sets.specs.Words.{setOf}
 use Rattle.sets.specs.Calls.{lentLengths, lentChecks}
 use Rattle.groups.specs.Answers.{uniqueAlt, singleViableAlt, verdict}
 use Rattle.outputs.specs.Outputs.{subsetsLength, padded, subsetsWords}
 use Rattle.deciding.specs.OneAlt.Laws.{one-tells}
-use Rattle.verdicts.specs.Calls.{Summary, VerdictReply, refused, says, alternative, written, summary, VerdictLeft, verdictLeft, readRefusal, readCall, mostStops}
+use Rattle.verdicts.specs.Calls.{Summary, VerdictReply, refused, says, alternative, written, summary, VerdictLeft, verdictLeft, readRefusal, readChecks, readCall, tooManyStops}
 use Rattle.verdicts.specs.Calls.{conflictingAltSubsetsCall, uniqueAltCall, singleViableAltCall, verdictCall}
-use Rattle.verdicts.specs.Reasons.{verdictReasons}
-use Rattle.verdicts.specs.Refused.{checksOf, refusal-reply, ask-refuses, Refuses, verdict-refuses}
+use Rattle.verdicts.specs.Refused.{refusal-reply, ask-refuses, Refuses, verdict-refuses}
 use Rattle.figures.specs.Calls.{figuresOf, figuresCall}
 use Rattle.figures.specs.Replies.{summaryOf, told}
 use Rattle.figures.specs.declared.answers.Figures.{Figures}
@@ -37,18 +37,13 @@ module _ (w v z stops : List ℕ) where
   abbrev cs : List Config
   cs = setOf v .configs
 
-  abbrev tenth : List Check
-  tenth = given 10 (ltb mostStops (length stops)) ∷ []
-
   -- ---- refused exactly when the verdict is, and leaving the same
 
-  pub figures-refuses : Refuses (figuresCall w v z stops) (verdictReasons w v z stops) z []
-  unfolding figuresCall lentChecks once absent
-  figures-refuses =
-      ask-refuses 0 w v z [] tenth (reason 10 (mostStops < length stops) ∷ [])
-      (refl, ltb-true mostStops (length stops), λ f h. never-both (lt-ltb mostStops (length stops) h) f, λ f. tt) _ [] (summary-no _) refl
+  pub figures-refuses : Refuses (figuresCall w v z stops) (readChecks 0 (tooManyStops stops) w v z []) z []
+  unfolding figuresCall
+  figures-refuses = ask-refuses 0 (tooManyStops stops) w v z [] _ [] (summary-no _)
 
-  pub refused-alike : (k : ℕ) → Exactly (figuresCall w v z stops .reply ≡ refused k) (verdictCall w v z stops .reply ≡ refused k)
+  pub refused-alike : (k : ℕ) → (figuresCall w v z stops .reply ≡ refused k) ↔ (verdictCall w v z stops .reply ≡ refused k)
   refused-alike k =
       let f = figures-refuses k .0 in
       let g = verdict-refuses w v z stops k .0 in
@@ -63,13 +58,13 @@ module _ (w v z stops : List ℕ) where
     pub verdict : verdictCall w v z stops .reply ≡ says (f .verdict)
 
   module _ (f : Summary) (e : figuresCall w v z stops .reply ≡ summary f) where
-    passed : Clear (checksOf 0 w v z [] tenth)
+    passed : Clear (readChecks 0 (tooManyStops stops) w v z [])
     unfolding figuresCall readCall
     passed =
         passed-clear (readRefusal z []) (verdictLeft (summary (figuresOf stops cs)) zeros []) (λ l. l .reply ≡ summary f)
-        (λ n g. summary-no f n (sym g ∙ refusal-reply z [] n)) (checksOf 0 w v z [] tenth) e
+        (λ n g. summary-no f n (sym g ∙ refusal-reply z [] n)) (readChecks 0 (tooManyStops stops) w v z []) e
 
-    lent : Clear (checksOf 0 w v z [] [])
+    lent : Clear (readChecks 0 [] w v z [])
     unfolding lentChecks
     lent = (passed .0, (passed .1 .0, (passed .1 .1 .0, tt)))
 
@@ -78,26 +73,26 @@ module _ (w v z stops : List ℕ) where
     unfolding figuresCall readCall
     is-figures =
         let r : summary (figuresOf stops cs) ≡ summary f =
-        sym (ap (λ (l : VerdictLeft). l .reply) (clear-passed (readRefusal z []) (verdictLeft (summary (figuresOf stops cs)) zeros []) (checksOf 0 w v z [] tenth) passed)) ∙ e in
+        sym (ap (λ (l : VerdictLeft). l .reply) (clear-passed (readRefusal z []) (verdictLeft (summary (figuresOf stops cs)) zeros []) (readChecks 0 (tooManyStops stops) w v z []) passed)) ∙ e in
         cc
 
     -- a call without more checks answers
     answers : (r : VerdictReply) → readCall 0 [] w v z [] r [] .reply ≡ r
     unfolding readCall
-    answers r = ap (λ (l : VerdictLeft). l .reply) (clear-passed (readRefusal z []) (verdictLeft r zeros []) (checksOf 0 w v z [] []) lent)
+    answers r = ap (λ (l : VerdictLeft). l .reply) (clear-passed (readRefusal z []) (verdictLeft r zeros []) (readChecks 0 [] w v z []) lent)
 
     pub as-four : AsFour f
     unfolding uniqueAltCall singleViableAltCall verdictCall conflictingAltSubsetsCall readCall lentChecks subsetsWords padded
     as-four = record {
       subsets = λ o l.
           ap (λ (x : VerdictLeft). getD (x .output) 0 0)
-          (clear-passed (readRefusal z o) (verdictLeft written zeros (subsetsWords cs)) (checksOf subsetsLength w v z o []) (rw (eq-eqb (length o) subsetsLength l) lent))
+          (clear-passed (readRefusal z o) (verdictLeft written zeros (subsetsWords cs)) (readChecks subsetsLength [] w v z o) (rw (eq-eqb (length o) subsetsLength l) lent))
           ∙ ap (λ (x : Summary). x .subsets) (sym is-figures);
       unique = answers (alternative (uniqueAlt cs)) ∙ ap (λ (x : Summary). alternative (x .unique)) (sym is-figures);
       viable = answers (alternative (singleViableAlt cs)) ∙ ap (λ (x : Summary). alternative (x .viable)) (sym is-figures);
       verdict =
           ap (λ (l : VerdictLeft). l .reply)
-          (clear-passed (readRefusal z []) (verdictLeft (says (Rattle.groups.specs.Answers.verdict stops cs)) zeros []) (checksOf 0 w v z [] tenth) passed)
+          (clear-passed (readRefusal z []) (verdictLeft (says (Rattle.groups.specs.Answers.verdict stops cs)) zeros []) (readChecks 0 (tooManyStops stops) w v z []) passed)
           ∙ ap (λ (x : Summary). says (x .verdict)) (sym is-figures);
     }
 

@@ -29,7 +29,8 @@ use Rattle.index.specs.Grow.{index-add, put-other, bucket-small}
 use Rattle.index.specs.Same.{single-node}
 use Rattle.index.specs.Walk.{hash-held}
 use Rattle.interning.specs.Live.{Live, Pushed, GrewTo, SameAbove, live-count, live-used, live-records, words-live}
-use Rattle.interning.specs.Write.{written-array, written-single, many-room}
+use Rattle.interning.specs.Write.{written-array, written-single}
+use Rattle.arena.specs.Kinds.Laws.{room-many}
 use Rattle.interning.specs.Interned.{Missing}
 
 -- nothing is made
@@ -114,7 +115,7 @@ module _ {w z : List ℕ} {place n h : ℕ} (v : Missing w z place n h) where
   unfolding pool
   no-entries k l f =
       let g : Fits (stackNode z place n ∷ storeOf w) = rw made-is at f in
-      let r : room (stackNode z place n) ≡ n = many-room (stackNode z place n) (rw new-size k) ∙ new-size in
+      let r : room (stackNode z place n) ≡ n = room-many (stackNode z place n) (rw new-size k) ∙ new-size in
       omega (arith, live-used (v .pushed .live), g .1, r)
 
   -- the record is written and indexed
@@ -141,7 +142,7 @@ module _ {w z : List ℕ} {place n h : ℕ} (v : Missing w z place n h) where
   pub made-single : n ≡ 1 → count w < 512 → (p r : ℕ) → p ≡ stackParent z place → r ≡ stackState z place → (w′ u : List ℕ)
       → w′ ≡ putCounts (putRecord w (count w) 1 p r) (count w + 1) (used w) → u ≡ putIndex z (count w) h
       → GrewTo z u w′ (intern (storeOf w) (stackNode z place n)) (count w)
-  unfolding pool room Rattle.arena.specs.Kinds.kindOf
+  unfolding pool room
   made-single o l p r ep er w′ u ew eu =
       let s = storeOf w in
       let c : count w ≡ length s = live-count (v .pushed .live) in
@@ -159,7 +160,7 @@ module _ {w z : List ℕ} {place n h : ℕ} (v : Missing w z place n h) where
       let s = storeOf w in
       let c : count w ≡ length s = live-count (v .pushed .live) in
       let d : used w ≡ pool s = live-used (v .pushed .live) in
-      let r : room (stackNode z place n) ≡ n = many-room (stackNode z place n) (rw new-size t) ∙ new-size in
+      let r : room (stackNode z place n) ≡ n = room-many (stackNode z place n) (rw new-size t) ∙ new-size in
       made w′ u (omega (arith, live-count (v .pushed .live)), omega (arith, v .pushed .live .good .fits .1))
       (ew ∙ array-eq w (count w) (length s) (used w) (pool s) n (stackNode z place n) c d ∙ sym (written-array w s (stackNode z place n) n new-size t)) eu
 

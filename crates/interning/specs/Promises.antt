@@ -1,6 +1,7 @@
 -- What a singleton call promises, over its definition alone: the stacks of an accepted one, a sound store that knows the number, older sets
 -- kept, the numbering rule; a refused one exactly when, and with nothing changed; its outcome determined. Nothing here has to be believed.
 use mathlib.Core.Path.{_≡_, refl, sym, ap, _∙_}
+use mathlib.Core.Logic.{_↔_}
 use mathlib.Core.Bool.{Bool, true, false, not, _&&_, or-false}
 use mathlib.Core.List.{List, [], _∷_}
 use Prim.Native.Nat.{ℕ, _<_, _≤_}
@@ -12,13 +13,13 @@ use Rattle.cases.specs.Bools.{bool?, never-both}
 use Rattle.cases.specs.Numbers.{two, below?, never}
 use Rattle.words.specs.Names.{emptyMark}
 use Rattle.stacks.specs.Forest.{Forest, none, mark, over, mem}
-use Rattle.arena.specs.Store.{Store, tree}
+use Rattle.arena.specs.Store.{Store, tree, at}
 use Rattle.arena.specs.Trees.{tree-canon}
 use Rattle.arena.specs.Identity.{tree-root}
 use Rattle.arena.specs.Stands.{stands}
 use Rattle.arena.specs.Place.{place}
 use Rattle.arena.specs.Placed.{grew-tree, place-grew, Holds, place-holds}
-use Rattle.arena.specs.Numbering.{parts, sets, allJoined}
+use Rattle.arena.specs.Numbering.{parts, sets, Joins}
 use Rattle.arena.specs.Numbering.Laws.{place-numbers}
 use Rattle.arena.specs.Below.Laws.{tree-below, place-below}
 use Rattle.layout.specs.Layout.{storeWords, stop, count as contexts}
@@ -32,13 +33,11 @@ use Rattle.encoding.specs.Decoded.{decoded}
 use Rattle.encoding.specs.Decide.{sound}
 use Rattle.encoding.specs.Decide.Laws.{sound-true, words-sound}
 use Rattle.encoding.specs.Written.{words-count}
-use Rattle.store.specs.Checks.{Check, given, Exactly, Reason, reason, DueBy}
-use Rattle.store.specs.Checks.Laws.{once, absent, Decides}
-use Rattle.store.specs.Reasons.Laws.{store-decides, known-decides, room-decides}
-use Rattle.store.specs.Calls.{refused, Left, leaves, unknownContext, noRoom, made, Accepts, Keeps}
-use Rattle.store.specs.Calls.Laws.{determined, refused-by, refused-keeps, accepted, right-lengths, is-sound, is-known, has-room}
+use Rattle.store.specs.Checks.{order, inOrder, due}
+use Rattle.store.specs.Calls.{refused, Left, leaves, refusal, made, Accepts}
+use Rattle.store.specs.Calls.Laws.{determined, refused-exactly, refused-leaves, accepted, right-lengths, is-sound, is-known, has-room}
 use Rattle.store.specs.Told.{number-tells}
-use Rattle.interning.specs.SingletonCall.{singleS, singletonChecks, singletonCall, singletonReasons}
+use Rattle.interning.specs.SingletonCall.{singleS, singletonChecks, singletonCall}
 use Rattle.interning.specs.SingletonCall.Laws.{single-mark, single-state}
 use Rattle.interning.specs.Replies.{numbered}
 use Rattle.interning.specs.declared.single.Numbered.{Numbered}
@@ -174,44 +173,30 @@ module _ (w z : List ℕ) (p r : ℕ) (c : ℕ) (w′ : List ℕ) (ok : Accepts 
       (rw (store-length w′ (contexts w′)) at there, λ σ. ap (λ (F : Forest). mem F σ) ((rw (a .store)) ∙ grew-tree (storeOf w) _ g k old)))
 
   -- "New contexts take the next number": the parts of the set, in the order in which they are complete, each unless a context stands for it
-  pub single-numbers : r < stop → sets (storeOf w′) ≡ allJoined (sets (storeOf w)) (parts (over r (tree (storeOf w) p) none))
+  pub single-numbers : r < stop → Joins (sets (storeOf w)) (parts (over r (tree (storeOf w) p) none)) (sets (storeOf w′))
   unfolding raised
   single-numbers l =
       let a = placed-after (ne-eqb r emptyMark (λ e. omega arith)) l .0 in
       let v = tree-canon (storeOf w) (passed .good .sound) p hp in
-      ap sets (a .store) ∙ place-numbers (storeOf w) (over r (tree (storeOf w) p) none) (passed .good .sound) (omega arith, v .0, v .1, tt) tt
+      rw (a .store) (place-numbers (storeOf w) (over r (tree (storeOf w) p) none) (passed .good .sound) (omega arith, v .0, v .1, tt) tt)
 
 -- ---- a refused singleton: exactly when, and with nothing changed
 
 pub no-refusal : (x : ℕ × Store) (n : ℕ) → made x .reply ≡ refused n → ⊥
 no-refusal x n e = never (cc)
 
--- check 5
-state-decides : (r : ℕ) (cs : List Check) (rs : List Reason) → Decides cs rs
-    → Decides (given 5 (leb stop r && not (eqb r emptyMark)) ∷ cs) (reason 5 ((stop ≤ r) × (r ≡ emptyMark → ⊥)) ∷ rs)
-state-decides r cs rs more =
-    below? r stop
-    (λ l. let f : (leb stop r && not (eqb r emptyMark)) ≡ false = rw (lt-leb stop r l) in
-    (refl, λ e. never-both e f, λ e h. omega (arith, h .0), λ e. more))
-    (λ l. two r emptyMark
-    (λ q. let f : (leb stop r && not (eqb r emptyMark)) ≡ false = rw (le-leb stop r l, eq-eqb r emptyMark q) in
-    (refl, λ e. never-both e f, λ e h. h .1 q, λ e. more))
-    (λ q. let t : (leb stop r && not (eqb r emptyMark)) ≡ true = rw (le-leb stop r l, ne-eqb r emptyMark q) in
-    (refl, λ e. (l, q), λ e h. never-both t e, λ e. never-both t e)))
+module _ (w z : List ℕ) (p r n : ℕ) where
+  pub singleton-refused-exactly : (singletonCall w z p r .reply ≡ refused n) ↔ (due (singletonChecks w z p r) ≡ at n)
+  unfolding singletonCall
+  singleton-refused-exactly = let x = singleS (storeOf w) p r in refused-exactly w z (singletonChecks w z p r) (made x) (no-refusal x) n
 
-pub singleton-refused-exactly : (w z : List ℕ) (p r n : ℕ) → Exactly (singletonCall w z p r .reply ≡ refused n) (DueBy n (singletonReasons w z p r))
-unfolding singletonCall singletonChecks once absent
-singleton-refused-exactly w z p r n =
-    let x = singleS (storeOf w) p r in
-    let fives = given 5 (leb stop r && not (eqb r emptyMark)) ∷ noRoom (x .1) ∷ [] in
-    let because = reason 5 ((stop ≤ r) × (r ≡ emptyMark → ⊥)) ∷ reason 6 (Fits (x .1) → ⊥) ∷ [] in
-    refused-by w z (singletonChecks w z p r) (made x) (no-refusal x) refl (singletonReasons w z p r)
-    (store-decides w z (unknownContext w p ∷ fives) (reason 4 (contexts w ≤ p) ∷ because)
-    (λ l s. known-decides w p fives because (λ k. state-decides r (noRoom (x .1) ∷ []) (reason 6 (Fits (x .1) → ⊥) ∷ []) (room-decides (x .1))))) n
+  pub singleton-refused-leaves : singletonCall w z p r .reply ≡ refused n → singletonCall w z p r ≡ refusal w z n
+  unfolding singletonCall
+  singleton-refused-leaves = let x = singleS (storeOf w) p r in refused-leaves w z (singletonChecks w z p r) (made x) (no-refusal x) n
 
-pub singleton-refused-keeps : (w z : List ℕ) (p r n : ℕ) → singletonCall w z p r .reply ≡ refused n → Keeps w z n (singletonCall w z p r)
-unfolding singletonCall
-singleton-refused-keeps w z p r n = refused-keeps w z (singletonChecks w z p r) (made (singleS (storeOf w) p r)) (no-refusal (singleS (storeOf w) p r)) n
+  pub singleton-in-order : inOrder order (singletonChecks w z p r) ≡ true
+  unfolding singletonChecks inOrder
+  singleton-in-order = refl
 
 -- ---- any two outcomes that satisfy a contract for the same input are equal: the answer, case and value, and every word
 

@@ -6,8 +6,8 @@ use native.Mathlib.Omega.{arith}
 use lib.ListN.{length, length-set}
 use Rattle.cases.specs.Numbers.{two}
 use Rattle.arena.specs.Store.{Node, end, dollar, push, Store}
-use Rattle.arena.specs.Kinds.{kindOf, size}
-use Rattle.arena.specs.Kinds.Laws.{kind-many}
+use Rattle.arena.specs.Kinds.{size}
+use Rattle.arena.specs.Kinds.Laws.{room-many}
 use Rattle.arena.specs.Room.{room, pool}
 use Rattle.layout.specs.Layout.{stop}
 use Rattle.layout.specs.Scratch.{stackParent, stackState}
@@ -58,17 +58,13 @@ many-node w c i (push r p end) h = absurd (omega arith)
 many-node w c i (push r p dollar) h = refl
 many-node w c i (push r p (push q o n)) h = refl
 
-pub many-room : (n : Node) → 2 ≤ size n → room n ≡ size n
-unfolding room
-many-room n h = rw (kind-many n h, room)
-
 pub written-array : (w : List ℕ) (s : Store) (n : Node) (k : ℕ) → size n ≡ k → 2 ≤ k
     → written w s n ≡ putCounts (putRecord (fill w (pool s) n) (length s) 2 (pool s) k) (suc (length s)) (pool s + k)
 unfolding written
-written-array w s n k e h = rw (many-node w (length s) (pool s) n (omega arith), many-room n (omega arith), e)
+written-array w s n k e h = rw (many-node w (length s) (pool s) n (omega arith), room-many n (omega arith), e)
 
 pub written-single : (w : List ℕ) (s : Store) (r p : ℕ) → written w s (push r p end) ≡ putCounts (putRecord w (length s) 1 p r) (suc (length s)) (pool s)
-unfolding written putNode room kindOf
+unfolding written putNode room
 written-single w s r p = let e : pool s + 0 ≡ pool s = omega arith in rw e
 
 pub length-putPool : (w : List ℕ) (i p r : ℕ) → length (putPool w i p r) ≡ length w

@@ -2,36 +2,16 @@
 use mathlib.Core.Path.{_≡_}
 use mathlib.Core.Logic.{_⊎_}
 use mathlib.Core.List.{List}
-use Prim.Native.Nat.{ℕ, zero, suc, _<_, _≤_, _+_, _*_}
+use Prim.Native.Nat.{ℕ, suc, _<_, _≤_, _+_, _*_}
 use lib.ListN.{getD}
+use Rattle.arena.specs.Room.{pool}
 use Rattle.layout.specs.Layout.{stop, mostContexts, mostEntries, count, used, kind, first, second, parent, state}
+use Rattle.layout.specs.Decode.{nodeIn, storeIn, storeOf}
 
 -- p is a parent of record c: a singleton's, or that of an array's entry
 pub data Parent (w : List ℕ) (c : ℕ) : ℕ → Type 0 where
   ofSingleton : kind w c ≡ 1 → Parent w c (first w c)
   ofEntry : kind w c ≡ 2 → (j : ℕ) → j < second w c → Parent w c (parent w (first w c + j))
-
--- the pool entries of the arrays among the first c records
-unfoldable pub lengths : List ℕ → ℕ → ℕ
-lengths w zero = 0
-lengths w (suc c) = lengths w c + arrayLength (kind w c) (second w c)
-  where
-    arrayLength : ℕ → ℕ → ℕ
-    arrayLength zero b = 0
-    arrayLength (suc zero) b = 0
-    arrayLength (suc (suc k)) b = b
-
--- two records have the same meaning field by field: singletons by parent and state, arrays by their entries
-pub record SameSingletons (w : List ℕ) (c d : ℕ) : Type 0 where
-  pub kinds : (kind w c ≡ 1) × (kind w d ≡ 1)
-  pub parents : first w c ≡ first w d
-  pub states : second w c ≡ second w d
-
-pub record SameArrays (w : List ℕ) (c d : ℕ) : Type 0 where
-  pub kinds : (kind w c ≡ 2) × (kind w d ≡ 2)
-  pub lengths : second w c ≡ second w d
-  pub parents : (j : ℕ) → j < second w c → parent w (first w c + j) ≡ parent w (first w d + j)
-  pub states : (j : ℕ) → j < second w c → state w (first w c + j) ≡ state w (first w d + j)
 
 pub record SoundWords (w : List ℕ) : Type 0 where
   -- "Word 0 is the context count (1 to 512), word 1 the pool entries in use (0 to 2,048)"
@@ -48,11 +28,11 @@ pub record SoundWords (w : List ℕ) : Type 0 where
   pub rise : (c j : ℕ) → c < count w → kind w c ≡ 2 → suc j < second w c → state w (first w c + j) < state w (first w c + suc j)
   pub dollar : (c j : ℕ) → c < count w → kind w c ≡ 2 → j < second w c → state w (first w c + j) ≡ stop → parent w (first w c + j) ≡ 0
   pub fit : (c j : ℕ) → c < count w → kind w c ≡ 2 → j < second w c → state w (first w c + j) ≤ stop
-  -- "arrays fill the pool in record order without gaps"
-  pub filled : (c : ℕ) → c < count w → kind w c ≡ 2 → first w c ≡ lengths w c
-  pub allUsed : used w ≡ lengths w (count w)
+  -- "arrays fill the pool in record order without gaps": each starts where the entries of the records before it end
+  pub filled : (c : ℕ) → c < count w → kind w c ≡ 2 → first w c ≡ pool (storeIn w c)
+  pub allUsed : used w ≡ pool (storeOf w)
   -- "no two records have the same meaning field by field (arrays by their entries)"
-  pub differ : (c d : ℕ) → c < d → d < count w → SameSingletons w c d ⊎ SameArrays w c d → ⊥
+  pub differ : (c d : ℕ) → c < d → d < count w → nodeIn w c ≡ nodeIn w d → ⊥
   -- "all unused words are 0"
   pub unusedRecords : (i : ℕ) → 2 + 3 * count w ≤ i → i < 1538 → getD w i 0 ≡ 0
   pub unusedParents : (i : ℕ) → used w ≤ i → i < 2048 → parent w i ≡ 0

@@ -8,40 +8,40 @@ use mathlib.Core.List.{List, [], _∷_, flatMap, List·Memᴰ}
 use Prim.Native.Nat.{ℕ, suc, _<_, _≤_, _+_, max}
 use native.Mathlib.Omega.{arith}
 use lib.Dec.{eqb, ltb}
-use lib.ListN.{length, getD}
+use lib.ListN.{length, getD, set}
 use borrow.Author.Tests.{le-ltb}
 use Rattle.words.specs.Names.{emptyMark}
 use Rattle.words.specs.Provenance.{markOf}
-use Rattle.stacks.specs.Forest.{over}
+use Rattle.stacks.specs.Forest.{Forest, over, mem}
 use Rattle.stacks.specs.Forest as Forests
-use Rattle.stacks.specs.Merge.{isMark, mergeT}
+use Rattle.stacks.specs.Merge.{mergeT}
 use Rattle.stacks.specs.Rules.{Stacks, MergeRule, WildcardMerge}
 use Rattle.stacks.specs.Rules.Laws.{wildcard-determined}
-use Rattle.arena.specs.Store.{end, dollar, tree, nodeAt}
+use Rattle.arena.specs.Store.{end, dollar, treeOf, tree, nodeAt}
+use Rattle.arena.specs.Trees.{tree-node}
 use Rattle.arena.specs.Place.{intern}
 use Rattle.arena.specs.Kinds.{size}
 use Rattle.arena.specs.Kinds.Laws.{intern-end, intern-dollar}
-use Rattle.arena.specs.Stands.{stands, entriesStand}
-use Rattle.arena.specs.Numbering.{parts, sets, setAt, allJoined}
-use Rattle.arena.specs.Numbering.Laws.{sets-at}
-use Rattle.arena.specs.Identity.{finite-stacks, some-stack, root-stands, record-stands}
-use Rattle.layout.specs.Layout.{storeWords, scratchWords, stop, count as contexts, kind, first, second, state}
+use Rattle.arena.specs.Stands.{stands}
+use Rattle.arena.specs.Numbering.{parts, sets, Joins, setAt}
+use Rattle.arena.specs.Numbering.Laws.{sets-at, joins-determined}
+use Rattle.arena.specs.Identity.{finite-stacks, some-stack, root-stands}
+use Rattle.layout.specs.Layout.{storeWords, scratchWords, stop, blank, count as contexts, kind, first, second, state}
 use Rattle.layout.specs.Decode.{storeOf}
 use Rattle.layout.specs.Encode.{wordsOf}
 use Rattle.layout.specs.Sound.{SoundWords}
 use Rattle.encoding.specs.Decide.{sound}
 use Rattle.encoding.specs.Decide.Laws.{sound-true, true-sound}
 use Rattle.encoding.specs.Decoded.{decoded}
-use Rattle.store.specs.Checks.{given, Exactly}
 use Rattle.store.specs.Calls as Stores
 use Rattle.store.specs.Calls.{zeros, leaves, Accepts, freshCall}
-use Rattle.store.specs.FreshWords.{fresh-goes}
+use Rattle.store.specs.FreshWords.{fresh-goes, fresh-count}
 use Rattle.store.specs.Told.{fresh-sound}
 use Rattle.interning.specs.SingletonCall.{singletonCall}
 use Rattle.interning.specs.Promises.{mark-answers-0, single-stands, single-sound-after, single-numbers}
 use Rattle.contexts.specs.MergeCall.{mergeCall}
 use Rattle.contexts.specs.Promises.{merge-by-wildcard, merge-sound-after, merge-numbers-after}
-use Rattle.queries.specs.Queries.{stateAt, parentOf, lenCall, isEmptyCall, hasEmptyPathCall, returnStateCall, parentCall}
+use Rattle.queries.specs.Queries.{Question, entryCount, entryState, entryParent, answerTo, queryCall}
 use Rattle.queries.specs.Sentences as Asked
 use Rattle.sets.specs.Layout.{setWordsLength, configAt, configCount, flag}
 use Rattle.sets.specs.Config.{Config}
@@ -49,7 +49,7 @@ use Rattle.sets.specs.Sets.{key}
 use Rattle.sets.specs.Words.{setOf, SoundSet, soundSet, bit}
 use Rattle.sets.specs.Sound.{sound-set-true, true-sound-set}
 use Rattle.sets.specs.Calls as Sets
-use Rattle.sets.specs.Calls.{setLeft, freshSetCall, addCall, closeCall}
+use Rattle.sets.specs.Calls.{freshSetCall, addCall, closeCall}
 use Rattle.configs.specs.Sentences as Added
 use Rattle.groups.specs.Lists.{All}
 use Rattle.groups.specs.Groups.{Group, groups}
@@ -57,22 +57,25 @@ use Rattle.groups.specs.Answers as Answers
 use Rattle.groups.specs.Answers.{none, conflictingAlts, uniqueAlt, singleViableAlt, allSubsetsConflict, allSubsetsEqual}
 use Rattle.groups.specs.Sentences.{Subsets, Many, ConflictUnion, AllEqual, Viable, Unique, Says, VerdictYes}
 use Rattle.groups.specs.Rules.{groups-unique}
+use Rattle.groups.specs.Room.{groups-fit, conflicting-most}
+use Rattle.outputs.specs.Outputs.Laws.{all-words}
+use Rattle.sets.specs.Listed.{configs-length}
 use Rattle.groups.specs.Single.{unique-says, viable-says}
 use Rattle.groups.specs.Conflicts.{conflict-exact}
 use Rattle.groups.specs.Equal.{equal-exact}
 use Rattle.groups.specs.Decided.{verdict-exact, verdict-empty, conflict-empty, equal-empty, viable-empty, unique-empty}
 use Rattle.outputs.specs.Outputs.{subsetsLength, altsLength, padded, groupWords}
 use Rattle.verdicts.specs.Calls.{alternative, says, mostStops, conflictingAltSubsetsCall, conflictingAltsCall, uniqueAltCall, singleViableAltCall}
-use Rattle.verdicts.specs.Calls.{allSubsetsConflictCall, allSubsetsEqualCall, verdictCall, VerdictLeft}
+use Rattle.verdicts.specs.Calls.{allSubsetsConflictCall, allSubsetsEqualCall, tooManyStops, verdictCall, VerdictLeft}
 use Rattle.verdicts.specs.Sentences as Judged
-use Rattle.promises.specs.Words.{store-sound, known, asks, lent, answers}
+use Rattle.promises.specs.Words.{store-sound, known, asks, lent, answers, add-leaves, close-leaves}
 
 -- "equal the Rust's within our capacities (differential runs)": no theorem, but the gate's comparisons with the Rust that is ported, in rust/.
 
 -- ---- the words of a store
 
 -- words of the right length pass the test exactly if document 01 calls them sound, clause by clause
-pub sound-exactly-by-the-clauses : (w : List ℕ) → length w ≡ storeWords → Exactly (sound w ≡ true) (SoundWords w)
+pub sound-exactly-by-the-clauses : (w : List ℕ) → length w ≡ storeWords → (sound w ≡ true) ↔ SoundWords w
 sound-exactly-by-the-clauses w l = (sound-true w l, true-sound w l)
 
 -- sound words are those of the store that they hold, so that words and stores tell the same
@@ -80,8 +83,8 @@ pub words-and-store : (w : List ℕ) → length w ≡ storeWords → sound w ≡
 words-and-store w l s = decoded w l (sound-true w l s) .1
 
 -- "A fresh store is count 1 and zeros, written over any earlier contents", and it is sound
-pub fresh-store : (w : List ℕ) → length w ≡ storeWords → (freshCall w ≡ (Stores.done, wordsOf (dollar ∷ []))) × (sound (wordsOf (dollar ∷ [])) ≡ true)
-fresh-store w l = (fresh-goes w l, fresh-sound)
+pub fresh-store : (w : List ℕ) → length w ≡ storeWords → (freshCall w ≡ (Stores.done, set (blank storeWords) 0 1)) × (sound (freshCall w .1) ≡ true)
+fresh-store w l = (fresh-count w l, rw (fresh-goes w l) fresh-sound)
 
 -- ---- "Stacks and merges", of the contexts of a sound store
 
@@ -96,8 +99,8 @@ module _ (w : List ℕ) (l : length w ≡ storeWords) (s : sound w ≡ true) whe
   context-0 = root-stands (storeOf w) (store-sound w l s) (known w 0 (omega (arith, sound-true w l s .counted .0)))
 
   -- "An array stands for the union over its entries. The entry `$` .. is the empty stack."
-  pub each-record : (c : ℕ) → c < contexts w → (σ : List ℕ) → stands (storeOf w) c σ ≡ entriesStand (storeOf w) (nodeAt (storeOf w) c) σ
-  each-record c h = record-stands (storeOf w) (store-sound w l s) c (known w c h)
+  pub each-record : (c : ℕ) → c < contexts w → (σ : List ℕ) → stands (storeOf w) c σ ≡ mem (treeOf (tree (storeOf w)) (nodeAt (storeOf w) c)) σ
+  each-record c h σ = ap (λ (F : Forest). mem F σ) (tree-node (storeOf w) (store-sound w l s) c (known w c h))
 
   -- "An interned list .. of one other entry, a singleton; of two or more, an array."
   pub one-entry : (c : ℕ) → c < contexts w → 0 < c → size (nodeAt (storeOf w) c) ≡ 1 → kind w c ≡ 1
@@ -113,35 +116,24 @@ module _ (w : List ℕ) (l : length w ≡ storeWords) (s : sound w ≡ true) whe
       (intern-end (storeOf w) (store-sound w l s) some, intern-dollar (storeOf w) (store-sound w l s) some)
 
   -- a query answers of the context's entries and of its stacks: how many entries; is it the set of the empty stack alone; is the empty stack in it
-  pub queries-answer : (z : List ℕ) → length z ≡ scratchWords → (c i : ℕ) → c < contexts w
-      → (lenCall w z c .reply ≡ Stores.count (size (nodeAt (storeOf w) c)))
-      × (isEmptyCall w z c .reply ≡ Stores.holds (isMark (tree (storeOf w) c)))
-      × (hasEmptyPathCall w z c .reply ≡ Stores.holds (stands (storeOf w) c []))
-      × (returnStateCall w z c i .reply ≡ stateAt (nodeAt (storeOf w) c) i)
-      × (parentCall w z c i .reply ≡ parentOf (storeOf w) c i)
-  queries-answer z lz c i h = (
-    ap (λ (x : Stores.Left). x .reply) (answers w z c _ l lz s h),
-    ap (λ (x : Stores.Left). x .reply) (answers w z c _ l lz s h),
-    ap (λ (x : Stores.Left). x .reply) (answers w z c _ l lz s h),
-    ap (λ (x : Stores.Left). x .reply) (answers w z c _ l lz s h),
-    ap (λ (x : Stores.Left). x .reply) (answers w z c _ l lz s h),
-  )
+  pub queries-answer : (q : Question) (z : List ℕ) → length z ≡ scratchWords → (c : ℕ) → c < contexts w → queryCall q w z c .reply ≡ answerTo q (storeOf w) c
+  queries-answer q z lz c h = ap (λ (x : Stores.Left). x .reply) (answers w z c (answerTo q (storeOf w) c) l lz s h)
 
   -- "Queries": "`return_state` of a `$`, context 0's at 0 included, is the empty mark; `parent` of context 0 is none at every index .. Context 0
   -- has one entry."
-  pub queries-of-0 : (size (nodeAt (storeOf w) 0) ≡ 1) × (stateAt (nodeAt (storeOf w) 0) 0 ≡ Stores.state emptyMark)
-      × ((i : ℕ) → parentOf (storeOf w) 0 i ≡ Stores.none)
-  queries-of-0 = let v = sound-true w l s in (Asked.root-one w l v, Asked.root-state w l v, Asked.root-parent w l v)
+  pub queries-of-0 : (answerTo entryCount (storeOf w) 0 ≡ Stores.count 1) × (answerTo (entryState 0) (storeOf w) 0 ≡ Stores.state emptyMark)
+      × ((i : ℕ) → answerTo (entryParent i) (storeOf w) 0 ≡ Stores.none)
+  queries-of-0 = let v = sound-true w l s in (ap Stores.count (Asked.root-one w l v), Asked.root-state w l v, Asked.root-parent w l v)
 
   -- "`return_state` of a `$` .. is the empty mark .. yet the parent of an array's `$` is 0."
   pub queries-of-dollar : (c i : ℕ) → c < contexts w → kind w c ≡ 2 → i < second w c → state w (first w c + i) ≡ stop
-      → (stateAt (nodeAt (storeOf w) c) i ≡ Stores.state emptyMark) × (parentOf (storeOf w) c i ≡ Stores.context 0)
+      → (answerTo (entryState i) (storeOf w) c ≡ Stores.state emptyMark) × (answerTo (entryParent i) (storeOf w) c ≡ Stores.context 0)
   queries-of-dollar c i h e k d =
       let n = asks w l s c h in (Asked.dollar-state w c n i e k d, Asked.dollar-parent w c n i e k d)
 
   -- "An index past the end is none."
   pub queries-past-the-end : (c i : ℕ) → c < contexts w → size (nodeAt (storeOf w) c) ≤ i
-      → (stateAt (nodeAt (storeOf w) c) i ≡ Stores.none) × (parentOf (storeOf w) c i ≡ Stores.none)
+      → (answerTo (entryState i) (storeOf w) c ≡ Stores.none) × (answerTo (entryParent i) (storeOf w) c ≡ Stores.none)
   queries-past-the-end c i h k =
       let n = asks w l s c h in (Asked.past-state w c n i k, Asked.past-parent w c n i k)
 
@@ -161,7 +153,7 @@ module _ (w z : List ℕ) (p r c : ℕ) (w′ : List ℕ) (ok : Accepts (singlet
   singleton-sound = single-sound-after w z p r c w′ ok
 
   -- "New contexts take the next number .. and nothing else is made."
-  pub singleton-numbers : r < stop → sets (storeOf w′) ≡ allJoined (sets (storeOf w)) (parts (over r (tree (storeOf w) p) Forests.none))
+  pub singleton-numbers : r < stop → Joins (sets (storeOf w)) (parts (over r (tree (storeOf w) p) Forests.none)) (sets (storeOf w′))
   singleton-numbers = single-numbers w z p r c w′ ok
 
 -- ---- an accepted merge
@@ -169,6 +161,10 @@ module _ (w z : List ℕ) (p r c : ℕ) (w′ : List ℕ) (ok : Accepts (singlet
 -- a number is the place of its set among those of the store, from which the next number is told
 pub numbers-are-places : (w : List ℕ) (c : ℕ) → c < contexts w → setAt (sets (storeOf w)) c ≡ tree (storeOf w) c
 numbers-are-places w c h = sets-at (storeOf w) c (known w c h)
+
+-- and that rule leaves no choice
+pub no-choice-of-numbers : {K Fs a b : List Forest} → Joins K Fs a → Joins K Fs b → a ≡ b
+no-choice-of-numbers = joins-determined
 
 -- "Wildcard merge of A and B", sentence by sentence; the full-context merge is demand 3's
 pub wildcard : (w z : List ℕ) (a b c : ℕ) (w′ : List ℕ) → Accepts (mergeCall w z a b true) c w′
@@ -185,12 +181,12 @@ module _ (w z : List ℕ) (a b : ℕ) (m : Bool) (c : ℕ) (w′ : List ℕ) (ok
   merge-sound = merge-sound-after w z a b m c w′ ok
 
   -- "New contexts take the next number: inner merges go in rising order of top state, each before the context above it, and nothing else is made."
-  pub merge-numbers : sets (storeOf w′) ≡ allJoined (sets (storeOf w)) (parts (mergeT m (tree (storeOf w) a) (tree (storeOf w) b)))
+  pub merge-numbers : Joins (sets (storeOf w)) (parts (mergeT m (tree (storeOf w) a) (tree (storeOf w) b))) (sets (storeOf w′))
   merge-numbers = merge-numbers-after w z a b m c w′ ok
 
 -- ---- config sets
 
-pub set-sound-exactly-by-the-clauses : (k : ℕ) (v : List ℕ) → length v ≡ setWordsLength → Exactly (soundSet k v ≡ true) (SoundSet k v)
+pub set-sound-exactly-by-the-clauses : (k : ℕ) (v : List ℕ) → length v ≡ setWordsLength → (soundSet k v ≡ true) ↔ SoundSet k v
 set-sound-exactly-by-the-clauses k v l = (sound-set-true k v, true-sound-set k v l)
 
 -- "A fresh set is flag 1 or 0 and else zeros, over any contents."
@@ -198,7 +194,8 @@ pub fresh-set : (v : List ℕ) (f : Bool) (v′ : List ℕ) → freshSetCall v f
     → (getD v′ 1 0 ≡ bit f 1) × ((j : ℕ) → j < setWordsLength → (j ≡ 1 → ⊥) → getD v′ j 0 ≡ 0) × ((k : ℕ) → SoundSet k v′)
 fresh-set v f v′ ok = (Added.fresh-flag v f v′ ok, Added.fresh-zeros v f v′ ok, Added.fresh-sound v f v′ ok)
 
-module _ (w v z : List ℕ) (x : Config) (a : ℕ) (w′ v′ : List ℕ) (ok : addCall w v z x ≡ setLeft (Sets.added a) w′ v′ zeros) where
+module _ (w v z : List ℕ) (x : Config) (a : ℕ) (w′ v′ : List ℕ) 
+    (ok : (addCall w v z x .reply ≡ Sets.added a) × (addCall w v z x .store ≡ w′) × (addCall w v z x .set ≡ v′)) where
   -- "On a known key the contexts are merged (wildcard unless flag 1), reach becomes the larger, bit 31 the OR of both, answer "merged".": 0
   module _ (i : ℕ) (here : i < configCount v) (same : key (configAt v i) ≡ key x) where
     pub add-merges : (a ≡ 0) × (configCount v′ ≡ configCount v) × (key (configAt v′ i) ≡ key x)
@@ -207,51 +204,51 @@ module _ (w v z : List ℕ) (x : Config) (a : ℕ) (w′ v′ : List ℕ) (ok : 
         × (markOf (configAt v′ i .provenance) ≡ max (markOf (configAt v i .provenance)) (markOf (x .provenance)))
         × ((j : ℕ) → j < configCount v → (j ≡ i → ⊥) → configAt v′ j ≡ configAt v j)
     add-merges = (
-      Added.merged-answer w v z x a w′ v′ ok i here same,
-      Added.merged-count w v z x a w′ v′ ok i here same,
-      Added.merged-key w v z x a w′ v′ ok i here same,
-      Added.merged-call w v z x a w′ v′ ok i here same,
-      Added.merged-reach w v z x a w′ v′ ok i here same,
-      Added.merged-mark w v z x a w′ v′ ok i here same,
-      Added.merged-others w v z x a w′ v′ ok i here same,
+      Added.merged-answer w v z x a w′ v′ (add-leaves w v z x a w′ v′ ok) i here same,
+      Added.merged-count w v z x a w′ v′ (add-leaves w v z x a w′ v′ ok) i here same,
+      Added.merged-key w v z x a w′ v′ (add-leaves w v z x a w′ v′ ok) i here same,
+      Added.merged-call w v z x a w′ v′ (add-leaves w v z x a w′ v′ ok) i here same,
+      Added.merged-reach w v z x a w′ v′ (add-leaves w v z x a w′ v′ ok) i here same,
+      Added.merged-mark w v z x a w′ v′ (add-leaves w v z x a w′ v′ ok) i here same,
+      Added.merged-others w v z x a w′ v′ (add-leaves w v z x a w′ v′ ok) i here same,
     )
 
     -- the config's context stands for the union of both in a full-context set, and for document 01's wildcard merge in another
     pub add-stands : MergeRule (not (flag 1 v)) (stands (storeOf w) (configAt v i .context)) (stands (storeOf w) (x .context)) (stands (storeOf w′) (configAt v′ i .context))
-    add-stands = Added.merged-stands w v z x a w′ v′ ok i here same
+    add-stands = Added.merged-stands w v z x a w′ v′ (add-leaves w v z x a w′ v′ ok) i here same
 
   -- "Otherwise the config goes last, answer "inserted".": 1
   pub add-inserts : ((i : ℕ) → i < configCount v → key (configAt v i) ≡ key x → ⊥)
       → (a ≡ 1) × (w′ ≡ w) × (configCount v′ ≡ suc (configCount v)) × (configAt v′ (configCount v) ≡ x)
       × ((j : ℕ) → j < configCount v → configAt v′ j ≡ configAt v j)
   add-inserts new = (
-    Added.inserted-answer w v z x a w′ v′ ok new,
-    Added.inserted-store w v z x a w′ v′ ok new,
-    Added.inserted-count w v z x a w′ v′ ok new,
-    Added.inserted-last w v z x a w′ v′ ok new,
-    Added.inserted-others w v z x a w′ v′ ok new,
+    Added.inserted-answer w v z x a w′ v′ (add-leaves w v z x a w′ v′ ok) new,
+    Added.inserted-store w v z x a w′ v′ (add-leaves w v z x a w′ v′ ok) new,
+    Added.inserted-count w v z x a w′ v′ (add-leaves w v z x a w′ v′ ok) new,
+    Added.inserted-last w v z x a w′ v′ (add-leaves w v z x a w′ v′ ok) new,
+    Added.inserted-others w v z x a w′ v′ (add-leaves w v z x a w′ v′ ok) new,
   )
 
   -- store and set are sound afterwards, and the set's own flags are as they were
   pub add-sound : (sound w′ ≡ true) × SoundSet (contexts w′) v′ × (flag 1 v′ ≡ flag 1 v) × (flag 8 v′ ≡ false)
   add-sound = (
-    Added.sound-after w v z x a w′ v′ ok .0,
-    Added.sound-after w v z x a w′ v′ ok .1,
-    Added.full-kept w v z x a w′ v′ ok,
-    Added.open-after w v z x a w′ v′ ok,
+    Added.sound-after w v z x a w′ v′ (add-leaves w v z x a w′ v′ ok) .0,
+    Added.sound-after w v z x a w′ v′ (add-leaves w v z x a w′ v′ ok) .1,
+    Added.full-kept w v z x a w′ v′ (add-leaves w v z x a w′ v′ ok),
+    Added.open-after w v z x a w′ v′ (add-leaves w v z x a w′ v′ ok),
   )
 
 -- "Closing a set sets flag 8", and nothing else
-pub close-sets-flag-8 : (w v z w′ v′ : List ℕ) → closeCall w v z ≡ setLeft Sets.done w′ v′ zeros
+pub close-sets-flag-8 : (w v z w′ v′ : List ℕ) → (closeCall w v z .reply ≡ Sets.done) × (closeCall w v z .store ≡ w′) × (closeCall w v z .set ≡ v′)
     → (w′ ≡ w) × (flag 8 v′ ≡ true) × (flag 1 v′ ≡ flag 1 v) × (configCount v′ ≡ configCount v)
     × ((j : ℕ) → j < configCount v → configAt v′ j ≡ configAt v j) × SoundSet (contexts w) v′
 close-sets-flag-8 w v z w′ v′ ok = (
-  Added.closed-store w v z w′ v′ ok,
-  Added.closed-flag w v z w′ v′ ok,
-  Added.closed-full w v z w′ v′ ok,
-  Added.closed-count w v z w′ v′ ok,
-  Added.closed-configs w v z w′ v′ ok,
-  Added.closed-sound w v z w′ v′ ok,
+  Added.closed-store w v z w′ v′ (close-leaves w v z w′ v′ ok),
+  Added.closed-flag w v z w′ v′ (close-leaves w v z w′ v′ ok),
+  Added.closed-full w v z w′ v′ (close-leaves w v z w′ v′ ok),
+  Added.closed-count w v z w′ v′ (close-leaves w v z w′ v′ ok),
+  Added.closed-configs w v z w′ v′ (close-leaves w v z w′ v′ ok),
+  Added.closed-sound w v z w′ v′ (close-leaves w v z w′ v′ ok),
 )
 
 -- ---- subsets, alternatives and the verdict, of sound words
@@ -273,6 +270,15 @@ module _ (w v z : List ℕ) (lw : length w ≡ storeWords) (lv : length v ≡ se
       → ConflictUnion (groups (setOf v .configs)) (conflictingAlts (setOf v .configs))
       × (conflictingAltsCall w v z o .output ≡ padded altsLength (length (conflictingAlts (setOf v .configs)) ∷ conflictingAlts (setOf v .configs)))
   conflicting = Judged.alts-written w v z (lent w v z lw lv lz s t)
+
+  -- 1,025 and 257 words are enough
+  pub outputs-suffice : (length (length (groups (setOf v .configs)) ∷ flatMap groupWords (groups (setOf v .configs))) ≤ subsetsLength)
+      × (length (length (conflictingAlts (setOf v .configs)) ∷ conflictingAlts (setOf v .configs)) ≤ altsLength)
+  outputs-suffice =
+      let n = configs-length v (configCount v) in (
+        omega (arith, all-words (groups (setOf v .configs)), groups-fit (setOf v .configs) (omega (arith, n, t .counted))),
+        omega (arith, conflicting-most (setOf v .configs), n, t .counted),
+      )
 
   -- unique: the set is not empty and every config has it. Viable: the least of every subset. Else the answer is none
   pub unique : (uniqueAltCall w v z .reply ≡ alternative (uniqueAlt (setOf v .configs))) × Says (Unique (setOf v .configs)) (uniqueAlt (setOf v .configs))
@@ -303,7 +309,7 @@ module _ (w v z : List ℕ) (lw : length w ≡ storeWords) (lv : length v ≡ se
   unfolding verdictCall
   verdict stops h = (
     ap (λ (x : VerdictLeft). x .reply)
-        (Judged.answered w v z (lent w v z lw lv lz s t) 0 [] refl (given 10 (ltb mostStops (length stops)) ∷ []) (le-ltb mostStops (length stops) h, tt) _ []),
+        (Judged.answered w v z (lent w v z lw lv lz s t) 0 [] refl (tooManyStops stops) (le-ltb mostStops (length stops) h, tt) _ []),
     verdict-exact stops (setOf v .configs),
   )
 

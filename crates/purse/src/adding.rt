@@ -9,7 +9,8 @@ use words::SemanticId;
 ghost use mathlib.Core.Path.{_≡_};
 ghost use Rattle.sets.specs.Calls.{addCall, closeCall, freshSetCall};
 ghost use Rattle.answers.specs.SetAnswers.{setAnswerOf, setNumberOf};
-ghost use Rattle.purse.specs.Doors.{OpensSet, byFullContext, config};
+ghost use Rattle.purse.specs.Doors.{OpensSet, byFullContext};
+ghost use Rattle.sets.specs.Config.{config};
 
 // Makes the lent words a set without configs: by mode 0 full-context, by any other number not.
 #[no_mangle]

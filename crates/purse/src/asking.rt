@@ -6,14 +6,14 @@ use answers::parent_answer;
 use answers::state_answer;
 use answers::truth_answer;
 use words::ContextId;
-ghost use Rattle.queries.specs.Queries.{hasEmptyPathCall, isEmptyCall, lenCall, parentCall, returnStateCall};
+ghost use Rattle.queries.specs.Queries.{entryCount, entryParent, entryState, hasEmptyPath, isEmpty, queryCall};
 ghost use Rattle.answers.specs.Answers.{answerOf, entryOf};
 ghost use Rattle.purse.specs.Doors.{Opens};
 
 // How many entries has a context?
 #[no_mangle]
 pub extern "C" fn purse_len(store: &[u32], scratch: &mut [u32], context: u32) -> Answer
-    ensures { λ r. ⌜ Opens answerOf (lenCall (now (store .entry)) (now (scratch .entry)) context) r (now (store .entry)) (now (scratch .exit)) ⌝ }
+    ensures { λ r. ⌜ Opens answerOf (queryCall entryCount (now (store .entry)) (now (scratch .entry)) context) r (now (store .entry)) (now (scratch .exit)) ⌝ }
 {
     count_answer(queries::len(store, scratch, ContextId(context)))
 }
@@ -21,7 +21,7 @@ pub extern "C" fn purse_len(store: &[u32], scratch: &mut [u32], context: u32) ->
 // Is a context exactly the set of the empty stack?
 #[no_mangle]
 pub extern "C" fn purse_is_empty(store: &[u32], scratch: &mut [u32], context: u32) -> Answer
-    ensures { λ r. ⌜ Opens answerOf (isEmptyCall (now (store .entry)) (now (scratch .entry)) context) r (now (store .entry)) (now (scratch .exit)) ⌝ }
+    ensures { λ r. ⌜ Opens answerOf (queryCall isEmpty (now (store .entry)) (now (scratch .entry)) context) r (now (store .entry)) (now (scratch .exit)) ⌝ }
 {
     truth_answer(queries::is_empty(store, scratch, ContextId(context)))
 }
@@ -29,7 +29,7 @@ pub extern "C" fn purse_is_empty(store: &[u32], scratch: &mut [u32], context: u3
 // Is the empty stack one of a context's?
 #[no_mangle]
 pub extern "C" fn purse_has_empty_path(store: &[u32], scratch: &mut [u32], context: u32) -> Answer
-    ensures { λ r. ⌜ Opens answerOf (hasEmptyPathCall (now (store .entry)) (now (scratch .entry)) context) r (now (store .entry)) (now (scratch .exit)) ⌝ }
+    ensures { λ r. ⌜ Opens answerOf (queryCall hasEmptyPath (now (store .entry)) (now (scratch .entry)) context) r (now (store .entry)) (now (scratch .exit)) ⌝ }
 {
     truth_answer(queries::has_empty_path(store, scratch, ContextId(context)))
 }
@@ -42,7 +42,7 @@ pub extern "C" fn purse_return_state(
     context: u32,
     index: u32,
 ) -> EntryAnswer
-    ensures { λ r. ⌜ Opens entryOf (returnStateCall (now (store .entry)) (now (scratch .entry)) context index) r (now (store .entry)) (now (scratch .exit)) ⌝ }
+    ensures { λ r. ⌜ Opens entryOf (queryCall (entryState index) (now (store .entry)) (now (scratch .entry)) context) r (now (store .entry)) (now (scratch .exit)) ⌝ }
 {
     state_answer(queries::return_state(store, scratch, ContextId(context), index))
 }
@@ -55,7 +55,7 @@ pub extern "C" fn purse_parent(
     context: u32,
     index: u32,
 ) -> EntryAnswer
-    ensures { λ r. ⌜ Opens entryOf (parentCall (now (store .entry)) (now (scratch .entry)) context index) r (now (store .entry)) (now (scratch .exit)) ⌝ }
+    ensures { λ r. ⌜ Opens entryOf (queryCall (entryParent index) (now (store .entry)) (now (scratch .entry)) context) r (now (store .entry)) (now (scratch .exit)) ⌝ }
 {
     parent_answer(queries::parent(store, scratch, ContextId(context), index))
 }

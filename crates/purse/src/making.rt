@@ -4,12 +4,13 @@ use answers::fresh_number;
 use answers::number_answer;
 use words::ContextId;
 use words::ReturnState;
+ghost use mathlib.Core.Bool.{not};
 ghost use mathlib.Core.Path.{_≡_};
 ghost use Rattle.store.specs.Calls.{freshCall};
 ghost use Rattle.contexts.specs.MergeCall.{mergeCall};
 ghost use Rattle.interning.specs.SingletonCall.{singletonCall};
 ghost use Rattle.answers.specs.Answers.{answerOf, numberOf};
-ghost use Rattle.purse.specs.Doors.{Opens, byWildcard};
+ghost use Rattle.purse.specs.Doors.{Opens, byFullContext};
 
 // Makes the lent words a fresh store.
 #[no_mangle]
@@ -41,7 +42,7 @@ pub extern "C" fn purse_merge(
     right: u32,
     mode: u32,
 ) -> Answer
-    ensures { λ r. ⌜ Opens answerOf (mergeCall (now (store .entry)) (now (scratch .entry)) left right (byWildcard mode)) r (now (store .exit)) (now (scratch .exit)) ⌝ }
+    ensures { λ r. ⌜ Opens answerOf (mergeCall (now (store .entry)) (now (scratch .entry)) left right (not (byFullContext mode))) r (now (store .exit)) (now (scratch .exit)) ⌝ }
 {
     number_answer(contexts::merge(store, scratch, ContextId(left), ContextId(right), mode != 0))
 }

@@ -14,7 +14,7 @@ use Rattle.queries.specs.declared.answers.StateFound.{StateFound}
 use Rattle.queries.specs.declared.answers.StateFound.the-variants.{State, Nothing as noState, Refused as notState}
 use Rattle.queries.specs.declared.answers.ParentFound.{ParentFound}
 use Rattle.queries.specs.declared.answers.ParentFound.the-variants.{Parent, Nothing as noParent, Refused as notParent}
-use Rattle.queries.specs.Queries.{lenCall, isEmptyCall, hasEmptyPathCall, returnStateCall, parentCall}
+use Rattle.queries.specs.Queries.{entryCount, isEmpty, hasEmptyPath, entryState, entryParent, queryCall}
 use Rattle.queries.specs.Answers.{counted, decided, stateFound, parentFound}
 
 -- ---- a reply tells the answer
@@ -70,26 +70,26 @@ same-left x y w u v l p q =
     (ap (λ (o : Left). o .reply) e, ap (λ (o : Left). o .scratch) e)
 
 module _ (w z : List ℕ) (c : ℕ) (u v : List ℕ) where
-  pub len-determined : (a b : Counted) → leaves (counted a) w u ≡ lenCall w z c → leaves (counted b) w v ≡ lenCall w z c → (a ≡ b) × (u ≡ v)
-  len-determined a b p q = let s = same-left (counted a) (counted b) w u v (lenCall w z c) p q in (counted-tells a b (s .0), s .1)
+  pub len-determined : (a b : Counted) → leaves (counted a) w u ≡ queryCall entryCount w z c → leaves (counted b) w v ≡ queryCall entryCount w z c → (a ≡ b) × (u ≡ v)
+  len-determined a b p q = let s = same-left (counted a) (counted b) w u v (queryCall entryCount w z c) p q in (counted-tells a b (s .0), s .1)
 
-  pub is-empty-determined : (a b : Decided) → leaves (decided a) w u ≡ isEmptyCall w z c → leaves (decided b) w v ≡ isEmptyCall w z c
+  pub is-empty-determined : (a b : Decided) → leaves (decided a) w u ≡ queryCall isEmpty w z c → leaves (decided b) w v ≡ queryCall isEmpty w z c
       → (a ≡ b) × (u ≡ v)
   is-empty-determined a b p q =
-      let s = same-left (decided a) (decided b) w u v (isEmptyCall w z c) p q in (decided-tells a b (s .0), s .1)
+      let s = same-left (decided a) (decided b) w u v (queryCall isEmpty w z c) p q in (decided-tells a b (s .0), s .1)
 
-  pub has-empty-path-determined : (a b : Decided) → leaves (decided a) w u ≡ hasEmptyPathCall w z c → leaves (decided b) w v ≡ hasEmptyPathCall w z c
+  pub has-empty-path-determined : (a b : Decided) → leaves (decided a) w u ≡ queryCall hasEmptyPath w z c → leaves (decided b) w v ≡ queryCall hasEmptyPath w z c
       → (a ≡ b) × (u ≡ v)
   has-empty-path-determined a b p q =
-      let s = same-left (decided a) (decided b) w u v (hasEmptyPathCall w z c) p q in (decided-tells a b (s .0), s .1)
+      let s = same-left (decided a) (decided b) w u v (queryCall hasEmptyPath w z c) p q in (decided-tells a b (s .0), s .1)
 
   module _ (i : ℕ) where
-    pub return-state-determined : (a b : StateFound) → leaves (stateFound a) w u ≡ returnStateCall w z c i → leaves (stateFound b) w v ≡ returnStateCall w z c i
+    pub return-state-determined : (a b : StateFound) → leaves (stateFound a) w u ≡ queryCall (entryState i) w z c → leaves (stateFound b) w v ≡ queryCall (entryState i) w z c
         → (a ≡ b) × (u ≡ v)
     return-state-determined a b p q =
-        let s = same-left (stateFound a) (stateFound b) w u v (returnStateCall w z c i) p q in (state-tells a b (s .0), s .1)
+        let s = same-left (stateFound a) (stateFound b) w u v (queryCall (entryState i) w z c) p q in (state-tells a b (s .0), s .1)
 
-    pub parent-determined : (a b : ParentFound) → leaves (parentFound a) w u ≡ parentCall w z c i → leaves (parentFound b) w v ≡ parentCall w z c i
+    pub parent-determined : (a b : ParentFound) → leaves (parentFound a) w u ≡ queryCall (entryParent i) w z c → leaves (parentFound b) w v ≡ queryCall (entryParent i) w z c
         → (a ≡ b) × (u ≡ v)
     parent-determined a b p q =
-        let s = same-left (parentFound a) (parentFound b) w u v (parentCall w z c i) p q in (parent-tells a b (s .0), s .1)
+        let s = same-left (parentFound a) (parentFound b) w u v (queryCall (entryParent i) w z c) p q in (parent-tells a b (s .0), s .1)

@@ -15,8 +15,7 @@ use Rattle.stacks.specs.Merge.{isMark}
 use Rattle.arena.specs.Store.{Node, end, dollar, push, tree, nodeAt}
 use Rattle.arena.specs.Soundness.{Sound}
 use Rattle.arena.specs.Kinds.{size}
-use Rattle.arena.specs.Identity.{tree-root, not-root, record-stands}
-use Rattle.arena.specs.Stands.{entriesStand}
+use Rattle.arena.specs.Identity.{tree-root, not-root, entriesStand, record-stands}
 use Rattle.layout.specs.Layout.{stop, count, kind, first, second, parent, state}
 use Rattle.layout.specs.Listing.Laws.{Entries, listing-size}
 use Rattle.layout.specs.Listing.{listing}
@@ -26,8 +25,8 @@ use Rattle.encoding.specs.Reads.{kind?, kind-zero, single-reads, array-entries,
 use Rattle.encoding.specs.Decoded.{store-sound}
 use Rattle.store.specs.Asks.{Known}
 use Rattle.store.specs.Calls.{context, none, state as shows}
-use Rattle.queries.specs.Queries.{stateAt, parentAt, parentOf}
-use Rattle.queries.specs.Listed.{state-past, parent-past, state-listing, parent-listing, empty-listing}
+use Rattle.queries.specs.Queries.{entryAt, answerTo}
+use Rattle.queries.specs.Listed.{stateAt, parentAt, parentOf, state-past, parent-past, state-listing, parent-listing, empty-listing}
 
 module _ {w : List ℕ} {c : ℕ} (k : Known w c) where
   pub few : c < 512
@@ -116,23 +115,21 @@ module _ {w : List ℕ} {c : ℕ} (k : Known w c) where
     state-other-past n h = state-past (nodeAt (storeOf w) c) i (omega (arith, size-other n))
 
     pub state-one : kind w c ≡ 1 → i ≡ 0 → stateAt (nodeAt (storeOf w) c) i ≡ shows (expanded (second w c))
-    unfolding stateAt
+    unfolding entryAt
     state-one e h =
         rw (at-one e, h) (ap shows (sym (expanded-state (second w c) (λ q. omega (arith, single-reads w (k .sound) c (k .below) e .1)))))
 
     pub state-zero : (kind w c ≡ 2 → ⊥) → (kind w c ≡ 1 → ⊥) → i ≡ 0 → stateAt (nodeAt (storeOf w) c) i ≡ shows emptyMark
-    unfolding stateAt
+    unfolding entryAt
     state-zero n m h = kind? w (k .sound) c (k .below) (λ e. rw (at-zero e, h)) (λ e. absurd (m e)) (λ e. absurd (n e))
 
     -- the parent at an index
 
     pub parent-zero : kind w c ≡ 0 → parentOf (storeOf w) c i ≡ none
-    unfolding parentOf
-    parent-zero e = rw (eq-eqb c 0 (kind-zero w (k .sound) c (k .below) e), parentOf)
+    parent-zero e = rw (eq-eqb c 0 (kind-zero w (k .sound) c (k .below) e), answerTo)
 
     above : (kind w c ≡ 0 → ⊥) → parentOf (storeOf w) c i ≡ parentAt (nodeAt (storeOf w) c) i
-    unfolding parentOf
-    above n = rw (ne-eqb c 0 (λ z. n (ap (kind w) z ∙ k .sound .root .0)), parentOf)
+    above n = rw (ne-eqb c 0 (λ z. n (ap (kind w) z ∙ k .sound .root .0)), answerTo)
 
     pub parent-many : kind w c ≡ 2 → i < second w c → parentOf (storeOf w) c i ≡ context (parent w (first w c + i))
     parent-many e h =
@@ -147,7 +144,7 @@ module _ {w : List ℕ} {c : ℕ} (k : Known w c) where
     parent-many-past e h = parent-at-past (omega (arith, size-many e))
 
     pub parent-one : (kind w c ≡ 0 → ⊥) → (kind w c ≡ 2 → ⊥) → i ≡ 0 → parentOf (storeOf w) c i ≡ context (first w c)
-    unfolding parentAt
+    unfolding entryAt
     parent-one n m h =
         above n ∙
         kind? w (k .sound) c (k .below)

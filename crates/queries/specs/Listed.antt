@@ -10,17 +10,27 @@ use Rattle.words.specs.Names.Laws.{expanded-mark, expanded-state}
 use Rattle.cases.specs.Numbers.{two}
 use Rattle.arena.specs.Store.{Node, end, dollar, push, Store}
 use Rattle.arena.specs.Kinds.{size}
-use Rattle.arena.specs.Stands.{entriesStand}
+use Rattle.arena.specs.Identity.{entriesStand}
 use Rattle.layout.specs.Layout.{stop}
 use Rattle.layout.specs.Listing.Laws.{Entries, listing-stop, listing-more, entries-rest, stop-last}
 use Rattle.layout.specs.Listing.{listing}
-use Rattle.store.specs.Calls.{context, state, none}
-use Rattle.queries.specs.Queries.{stateAt, parentAt}
+use Rattle.store.specs.Calls.{Reply, context, state, none}
+use Rattle.queries.specs.Queries.{entryAt, entryParent, answerTo}
+
+-- the state of an entry, and its parent
+abbrev pub stateAt : Node → ℕ → Reply
+stateAt n i = entryAt n i (λ r p. state r)
+
+abbrev pub parentAt : Node → ℕ → Reply
+parentAt n i = entryAt n i (λ r p. context p)
+
+abbrev pub parentOf : Store → ℕ → ℕ → Reply
+parentOf s c i = answerTo (entryParent i) s c
 
 -- ---- past the end
 
 pub state-past : (n : Node) (i : ℕ) → size n ≤ i → stateAt n i ≡ none
-unfolding size stateAt
+unfolding size entryAt
 state-past end i h = refl
 state-past dollar zero h = absurd (omega arith)
 state-past dollar (suc i) h = refl
@@ -28,7 +38,7 @@ state-past (push r p n) zero h = absurd (omega arith)
 state-past (push r p n) (suc i) h = state-past n i (omega arith)
 
 pub parent-past : (n : Node) (i : ℕ) → size n ≤ i → parentAt n i ≡ none
-unfolding size parentAt
+unfolding size entryAt
 parent-past end i h = refl
 parent-past dollar zero h = absurd (omega arith)
 parent-past dollar (suc i) h = refl
@@ -42,7 +52,7 @@ not-last : (st pa : ℕ → ℕ) (i k c : ℕ) → Entries st pa i (suc k) c →
 not-last st pa i k c v h e = omega (arith, stop-last st pa i k c v e)
 
 pub state-listing : (st pa : ℕ → ℕ) (i k c j : ℕ) → Entries st pa i k c → j < k → stateAt (listing st pa i k) j ≡ state (expanded (st (i + j)))
-unfolding stateAt
+unfolding entryAt
 state-listing st pa i zero c j v h = absurd (omega arith)
 state-listing st pa i (suc k) c zero v h =
     let z : i + 0 ≡ i = omega arith in
@@ -55,7 +65,7 @@ state-listing st pa i (suc k) c (suc j) v h =
     rw (listing-more st pa i k (not-last st pa i k c v (omega arith))) (later ∙ ap (λ (x : ℕ). state (expanded (st x))) z)
 
 pub parent-listing : (st pa : ℕ → ℕ) (i k c j : ℕ) → Entries st pa i k c → j < k → parentAt (listing st pa i k) j ≡ context (pa (i + j))
-unfolding parentAt
+unfolding entryAt
 parent-listing st pa i zero c j v h = absurd (omega arith)
 parent-listing st pa i (suc k) c zero v h =
     let z : i + 0 ≡ i = omega arith in

@@ -1,71 +1,48 @@
 -- Document 01's refusals of the queries: each exactly when it is due, and with nothing changed. Nothing here has to be believed.
-use mathlib.Core.Path.{_≡_}
+use mathlib.Core.Path.{_≡_, refl}
+use mathlib.Core.Logic.{_↔_}
 use mathlib.Core.Bool.{Bool, true, false}
 use mathlib.Core.List.{List}
 use Prim.Native.Nat.{ℕ, zero, suc}
 use lib.Dec.{eqb}
-use Rattle.cases.specs.Bools.{bool?}
 use Rattle.cases.specs.Numbers.{never}
-use Rattle.arena.specs.Store.{Node, end, dollar, push, Store, nodeAt}
-use Rattle.store.specs.Checks.{Exactly, DueBy}
-use Rattle.store.specs.Reasons.{askReasons}
-use Rattle.store.specs.Calls.{Reply, refused, context, count, state, holds, none, Left, asked, Keeps}
-use Rattle.store.specs.Asks.{asked-refused-exactly, asked-refused-keeps}
-use Rattle.queries.specs.Queries.{stateAt, parentAt, parentOf, lenCall, isEmptyCall, hasEmptyPathCall, returnStateCall, parentCall}
+use Rattle.arena.specs.Store.{Node, end, dollar, push, Store, nodeAt, at}
+use Rattle.layout.specs.Decode.{storeOf}
+use Rattle.store.specs.Checks.{order, inOrder, due}
+use Rattle.store.specs.Calls.{Reply, refused, context, state, none, refusal, askChecks}
+use Rattle.store.specs.Asks.{asked-refused-exactly, asked-refused-leaves}
+use Rattle.queries.specs.Queries.{Question, entryCount, isEmpty, hasEmptyPath, entryState, entryParent, entryAt, answerTo, queryCall}
 
 -- ---- no answer is a refusal
 
-Answers : Reply → Type 0
-Answers r = (n : ℕ) → r ≡ refused n → ⊥
+entry-answers : (f : ℕ → ℕ → Reply) (n : ℕ) → ((r p : ℕ) → f r p ≡ refused n → ⊥) → (k : Node) (i : ℕ) → entryAt k i f ≡ refused n → ⊥
+unfolding entryAt
+entry-answers f n h end i e = never (cc)
+entry-answers f n h dollar zero e = h _ 0 e
+entry-answers f n h dollar (suc i) e = never (cc)
+entry-answers f n h (push r p k) zero e = h r p e
+entry-answers f n h (push r p k) (suc i) e = entry-answers f n h k i e
 
-state-answers : (k : Node) (i : ℕ) → Answers (stateAt k i)
-unfolding stateAt Answers
-state-answers end i n e = never (cc)
-state-answers dollar zero n e = never (cc)
-state-answers dollar (suc i) n e = never (cc)
-state-answers (push r p k) zero n e = never (cc)
-state-answers (push r p k) (suc i) n e = state-answers k i n e
-
-parent-answers : (k : Node) (i : ℕ) → Answers (parentAt k i)
-unfolding parentAt Answers
-parent-answers end i n e = never (cc)
-parent-answers dollar zero n e = never (cc)
-parent-answers dollar (suc i) n e = never (cc)
-parent-answers (push r p k) zero n e = never (cc)
-parent-answers (push r p k) (suc i) n e = parent-answers k i n e
-
-parent-of-answers : (s : Store) (c i : ℕ) → Answers (parentOf s c i)
-unfolding parentOf Answers
-parent-of-answers s c i = go (eqb c 0)
+answers : (q : Question) (s : Store) (c n : ℕ) → answerTo q s c ≡ refused n → ⊥
+answers entryCount s c n e = never (cc)
+answers isEmpty s c n e = never (cc)
+answers hasEmptyPath s c n e = never (cc)
+answers (entryState i) s c n e = entry-answers (λ r p. state r) n (λ r p g. never (cc)) (nodeAt s c) i e
+answers (entryParent i) s c n e = go (eqb c 0) e
   where
-    go : (b : Bool) (n : ℕ) → elim b [ true ↦ none | false ↦ parentAt (nodeAt s c) i ] ≡ refused n → ⊥
-    go true n e = never (cc)
-    go false n e = parent-answers (nodeAt s c) i n e
+    go : (b : Bool) → elim b [ true ↦ none | false ↦ entryAt (nodeAt s c) i (λ r p. context p) ] ≡ refused n → ⊥
+    go true g = never (cc)
+    go false g = entry-answers (λ r p. context p) n (λ r p h. never (cc)) (nodeAt s c) i g
 
 -- ---- refused n exactly when that is due, and then all is as it was but the scratch
 
-abbrev Refuses : (w z : List ℕ) (c : ℕ) → Left → Type 0
-Refuses w z c x = (n : ℕ) → Exactly (x .reply ≡ refused n) (DueBy n (askReasons w z c)) × (x .reply ≡ refused n → Keeps w z n x)
+module _ (q : Question) (w z : List ℕ) (c : ℕ) where
+  pub query-refused-exactly : (n : ℕ) → (queryCall q w z c .reply ≡ refused n) ↔ (due (askChecks w z c) ≡ at n)
+  query-refused-exactly = asked-refused-exactly w z c (answerTo q (storeOf w) c) (answers q (storeOf w) c)
 
-refuses : (w z : List ℕ) (c : ℕ) (r : Reply) → Answers r → Refuses w z c (asked w z c r)
-unfolding Answers
-refuses w z c r a n = (asked-refused-exactly w z c r a n, asked-refused-keeps w z c r a n)
+  pub query-refused-leaves : (n : ℕ) → queryCall q w z c .reply ≡ refused n → queryCall q w z c ≡ refusal w z n
+  query-refused-leaves = asked-refused-leaves w z c (answerTo q (storeOf w) c) (answers q (storeOf w) c)
 
-module _ (w z : List ℕ) (c : ℕ) where
-  pub len-refuses : Refuses w z c (lenCall w z c)
-  unfolding Answers
-  len-refuses = refuses w z c _ (λ n e. never (cc))
-
-  pub is-empty-refuses : Refuses w z c (isEmptyCall w z c)
-  unfolding Answers
-  is-empty-refuses = refuses w z c _ (λ n e. never (cc))
-
-  pub has-empty-path-refuses : Refuses w z c (hasEmptyPathCall w z c)
-  unfolding Answers
-  has-empty-path-refuses = refuses w z c _ (λ n e. never (cc))
-
-  pub return-state-refuses : (i : ℕ) → Refuses w z c (returnStateCall w z c i)
-  return-state-refuses i = refuses w z c _ (state-answers _ i)
-
-  pub parent-refuses : (i : ℕ) → Refuses w z c (parentCall w z c i)
-  parent-refuses i = refuses w z c _ (parent-of-answers _ c i)
+pub ask-in-order : (w z : List ℕ) (c : ℕ) → inOrder order (askChecks w z c) ≡ true
+unfolding inOrder
+ask-in-order w z c = refl

@@ -14,8 +14,8 @@ use Rattle.layout.specs.Sound.{SoundWords}
 use Rattle.cases.specs.Numbers.{two}
 use Rattle.encoding.specs.Reads.{kind?, kind-zero}
 use Rattle.store.specs.Calls.{context, state, none}
-use Rattle.queries.specs.Queries.{stateAt, parentOf}
-use Rattle.queries.specs.Listed.{state-past}
+use Rattle.queries.specs.Queries.{entryAt}
+use Rattle.queries.specs.Listed.{stateAt, parentOf, state-past}
 use Rattle.store.specs.Asks.{Known}
 use Rattle.queries.specs.EntryWords.{size-many, size-other, many-some, state-many, state-zero, parent-zero, parent-many, parent-at-past}
 
@@ -68,7 +68,7 @@ module _ (w : List ℕ) (c : ℕ) (k : Known w c) (i : ℕ) where
 
 -- and only such an index: every entry has a state
 pub state-some : (n : Node) (i : ℕ) → i < size n → stateAt n i ≡ none → ⊥
-unfolding size stateAt
+unfolding size entryAt
 state-some end i h e = omega arith
 state-some dollar zero h e = let z : _≡_ {A = ℕ} 0 1 = cc in omega arith
 state-some dollar (suc i) h e = omega arith

@@ -9,7 +9,8 @@ ghost use Rattle.layout.specs.Decode.{storeOf};
 ghost use Rattle.store.specs.Calls.{leaves};
 ghost use Rattle.queries.specs.Answers.{parentFound};
 ghost use Rattle.store.specs.Asks.{Known};
-ghost use Rattle.queries.specs.Queries.{parentCall, parentOf};
+ghost use Rattle.queries.specs.Queries.{entryParent, queryCall};
+ghost use Rattle.queries.specs.Listed.{parentOf};
 
 // Of an array: the entry's parent, 0 for a `$`.
 fn array_parent(store: &[u32], context: usize, index: u32) -> ParentFound
@@ -44,7 +45,7 @@ fn parent_at(store: &[u32], context: usize, index: u32) -> ParentFound
 // What is the parent of a context's entry at an index?
 pub fn parent(store: &[u32], scratch: &mut [u32], context: ContextId, index: u32) -> ParentFound
     ensures { λ r. ⌜ leaves (parentFound r) (now (store .entry)) (now (scratch .exit))
-        ≡ parentCall (now (store .entry)) (now (scratch .entry)) (context .0) index ⌝ }
+        ≡ queryCall (entryParent index) (now (store .entry)) (now (scratch .entry)) (context .0) ⌝ }
 {
     let asked = ask(store, scratch, context);
     if let Admitted::Refused(refusal) = asked {

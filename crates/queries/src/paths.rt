@@ -12,7 +12,7 @@ ghost use Rattle.layout.specs.Decode.{storeOf};
 ghost use Rattle.store.specs.Calls.{leaves};
 ghost use Rattle.queries.specs.Answers.{decided};
 ghost use Rattle.store.specs.Asks.{Known};
-ghost use Rattle.queries.specs.Queries.{hasEmptyPathCall};
+ghost use Rattle.queries.specs.Queries.{hasEmptyPath, queryCall};
 
 // Is the last entry a `$`? States rise, so no other can be.
 fn ends_in_mark(store: &[u32], context: usize) -> bool
@@ -31,7 +31,7 @@ fn ends_in_mark(store: &[u32], context: usize) -> bool
 // Is the empty stack one of a context's?
 pub fn has_empty_path(store: &[u32], scratch: &mut [u32], context: ContextId) -> Decided
     ensures { λ r. ⌜ leaves (decided r) (now (store .entry)) (now (scratch .exit))
-        ≡ hasEmptyPathCall (now (store .entry)) (now (scratch .entry)) (context .0) ⌝ }
+        ≡ queryCall hasEmptyPath (now (store .entry)) (now (scratch .entry)) (context .0) ⌝ }
 {
     let asked = ask(store, scratch, context);
     if let Admitted::Refused(refusal) = asked {

@@ -10,7 +10,7 @@ ghost use Rattle.layout.specs.Decode.{storeOf};
 ghost use Rattle.store.specs.Calls.{leaves};
 ghost use Rattle.queries.specs.Answers.{counted};
 ghost use Rattle.store.specs.Asks.{Known};
-ghost use Rattle.queries.specs.Queries.{lenCall};
+ghost use Rattle.queries.specs.Queries.{entryCount, queryCall};
 
 // An array has as many as its length says, any other record one.
 fn entry_count(store: &[u32], context: usize) -> u32
@@ -27,7 +27,7 @@ fn entry_count(store: &[u32], context: usize) -> u32
 // How many entries has a context?
 pub fn len(store: &[u32], scratch: &mut [u32], context: ContextId) -> Counted
     ensures { λ r. ⌜ leaves (counted r) (now (store .entry)) (now (scratch .exit))
-        ≡ lenCall (now (store .entry)) (now (scratch .entry)) (context .0) ⌝ }
+        ≡ queryCall entryCount (now (store .entry)) (now (scratch .entry)) (context .0) ⌝ }
 {
     let asked = ask(store, scratch, context);
     if let Admitted::Refused(refusal) = asked {

@@ -13,7 +13,8 @@ ghost use Rattle.layout.specs.Decode.{storeOf};
 ghost use Rattle.store.specs.Calls.{leaves};
 ghost use Rattle.queries.specs.Answers.{stateFound};
 ghost use Rattle.store.specs.Asks.{Known};
-ghost use Rattle.queries.specs.Queries.{returnStateCall, stateAt};
+ghost use Rattle.queries.specs.Queries.{entryState, queryCall};
+ghost use Rattle.queries.specs.Listed.{stateAt};
 
 // Of an array: the entry's state, as the border shows it.
 fn array_state(store: &[u32], context: usize, index: u32) -> StateFound
@@ -55,7 +56,7 @@ pub fn return_state(
     index: u32,
 ) -> StateFound
     ensures { λ r. ⌜ leaves (stateFound r) (now (store .entry)) (now (scratch .exit))
-        ≡ returnStateCall (now (store .entry)) (now (scratch .entry)) (context .0) index ⌝ }
+        ≡ queryCall (entryState index) (now (store .entry)) (now (scratch .entry)) (context .0) ⌝ }
 {
     let asked = ask(store, scratch, context);
     if let Admitted::Refused(refusal) = asked {

@@ -9,6 +9,7 @@ use lib.Dec.{eqb}
 use lib.ListN.{length}
 use borrow.Author.Tests.{eq-eqb}
 use Rattle.cases.specs.Numbers.{two}
+use Rattle.stacks.specs.Rules.{Stacks}
 use Rattle.arena.specs.Store.{Store, dollar}
 use Rattle.layout.specs.Layout.{storeWords, blank}
 use Rattle.layout.specs.Decode.{storeOf}
@@ -24,20 +25,21 @@ use Rattle.sets.specs.Sets.{emptySet}
 use Rattle.sets.specs.Words.{setWords, distinct, goodSet}
 use Rattle.sets.specs.Calls.{SetReply}
 use Rattle.configs.specs.Settles.{fresh-goes as fresh-set-goes}
-use Rattle.groups.specs.Renamed.{none}
+use Rattle.groups.specs.Renamed.{none, more}
+use Rattle.groups.specs.Lists.{which}
 use Rattle.readers.specs.Calls.{Call, Lent, Sized, Got, refused, Reader, Done, step}
 use Rattle.readers.specs.Runs as Runs
-use Rattle.readers.specs.Runs.{Stacks, see, By, put, runFrom, freshStore, starting, run, onlyIf, only, Roomy}
+use Rattle.readers.specs.Runs.{see, By, put, runFrom, freshStore, starting, run, only, Roomy}
 use Rattle.readers.specs.Pure.{State, wordsAfter, step-is}
 use Rattle.readers.specs.Kept.{Good}
 use Rattle.readers.specs.Alike.{set}
-use Rattle.readers.specs.Twins.{Own, Both, after}
+use Rattle.readers.specs.Twins.{Like, Own, Both, after}
 use Rattle.readers.specs.Turns.{moved, put-same, put-other, known-left, after-left, Inside, stays-inside, pureFrom, alone-from}
 
 -- ---- what words hold
 
 abbrev pub readerOf : Own → Reader
-readerOf P = record { set = setWords (P .set); answers = P .answers }
+readerOf P = record { set = setWords (P .set); names = P .names }
 
 -- the words of a store that the readers share, and of the readers
 pub record Shown (w : List ℕ) (Rs : ℕ → Reader) (s : Store) (Ps : ℕ → Own) : Type 0 where
@@ -54,7 +56,7 @@ module _ (L : Lent) (sized : Sized L) (w : List ℕ) (Rs : ℕ → Reader) (s : 
   call-is =
       let here = h .inside k in
       ap (λ (u : List ℕ). step L u (Rs k) x) (h .store) ∙ ap (λ (R : Reader). step L (wordsOf s) R x) (h .readers k)
-      ∙ step-is s (here .left .store) (Ps k .set) (here .left .set) L sized (Ps k .answers) (known-left s s (Ps k) (Ps k) here) x
+      ∙ step-is s (here .left .store) (Ps k .set) (here .left .set) L sized (Ps k .names) (known-left s s (Ps k) (Ps k) here) x
 
   pub seen-is : see (storeOf (step L w (Rs k) x .store)) (step L w (Rs k) x .got) ≡ see (made .store) (made .got)
   seen-is =
@@ -90,18 +92,21 @@ abbrev pub first : Store
 first = dollar ∷ []
 
 abbrev pub beginner : Own
-beginner = record { set = emptySet true; answers = [] }
+beginner = record { set = emptySet true; names = 0 ∷ [] }
 
 first-good : Good first (emptySet true)
 unfolding goodSet all distinct
 first-good = record { store = fresh-good; set = refl }
 
+root-alike : Like first first 0 0
+root-alike = record { left = omega arith; right = omega arith; same = refl }
+
 pub start-both : Both first first beginner beginner
 start-both = record {
   left = first-good;
   right = first-good;
-  zeros = record { left = omega arith; right = omega arith; same = refl };
-  answers = none;
+  zeros = root-alike;
+  names = more root-alike none;
   sets = set (emptySet true) none;
 }
 
@@ -109,7 +114,7 @@ pub start-shown : Shown freshStore (λ i. starting) first (λ i. beginner)
 unfolding freshStore starting
 start-shown = record {
   store = ap (λ (p : Reply × List ℕ). p .1) (fresh-goes (blank storeWords) (length-blank storeWords));
-  readers = λ j. ap (λ (p : SetReply × List ℕ). record { set = p .1; answers = [] }) (fresh-set-goes (blank setWordsLength) (length-blank setWordsLength) true);
+  readers = λ j. ap (λ (p : SetReply × List ℕ). record { set = p .1; names = 0 ∷ [] }) (fresh-set-goes (blank setWordsLength) (length-blank setWordsLength) true);
   inside = λ j. start-both;
 }
 
@@ -131,11 +136,11 @@ module _ (i : ℕ) (calls : List (By Call)) (lent lent′ : ℕ → Lent) (sized
       ∙ sym alone-is
 
 pub roomy-only : (i : ℕ) (xs : List (By (Got Stacks))) → Roomy xs → Roomy (only i xs)
-unfolding only
+unfolding which
 roomy-only i [] h = tt
 roomy-only i (x ∷ xs) h = go (eqb (x .reader) i) (roomy-only i xs (h .1))
   where
-    go : (t : Bool) → Roomy (only i xs) → Roomy (onlyIf t x (only i xs))
+    go : (t : Bool) → Roomy (only i xs) → Roomy (elim t [ true ↦ x ∷ only i xs | false ↦ only i xs ])
     go true l = (h .0, l)
     go false l = l
 

@@ -10,8 +10,8 @@ use Rattle.store.specs.Calls as Stores
 use Rattle.store.specs.Calls.{Reply, Left}
 use Rattle.interning.specs.SingletonCall.{singletonCall}
 use Rattle.contexts.specs.MergeCall.{mergeCall}
-use Rattle.queries.specs.Queries.{lenCall, isEmptyCall, hasEmptyPathCall, returnStateCall, parentCall}
-use Rattle.sets.specs.Config.{Config}
+use Rattle.queries.specs.Queries.{Question, queryCall}
+use Rattle.sets.specs.Config.{config}
 use Rattle.sets.specs.Calls as Sets
 use Rattle.sets.specs.Calls.{SetReply, SetLeft, freshSetCall, addCall, closeCall}
 use Rattle.outputs.specs.Outputs.{subsetsLength, altsLength}
@@ -19,28 +19,18 @@ use Rattle.verdicts.specs.Calls as Verdicts
 use Rattle.verdicts.specs.Calls.{VerdictReply, VerdictLeft, conflictingAltSubsetsCall, conflictingAltsCall, uniqueAltCall, singleViableAltCall, allSubsetsConflictCall, allSubsetsEqualCall}
 use Rattle.verdicts.specs.Calls.{verdictCall}
 
--- "naming a context only as 0 or as an earlier answer of its own": the k-th context among its answers, from 0 on
-pub data Name : Type 0 where
-  root : Name
-  answer : ℕ → Name
+-- "naming a context only as 0 or as an earlier answer of its own": by its place, from 0 on, in the list of context 0 and those among its answers
+abbrev pub Name : Type 0
+Name = ℕ
 
 pub data Call : Type 0 where
   singleton : Name → ℕ → Call
   merge : Name → Name → Bool → Call
-  len : Name → Call
-  isEmpty : Name → Call
-  hasEmptyPath : Name → Call
-  returnState : Name → ℕ → Call
-  parent : Name → ℕ → Call
+  query : Question → Name → Call
   freshSet : Bool → Call
   add : ℕ → ℕ → Name → ℕ → ℕ → ℕ → Call  -- state, alternative, context, semantic id, reach, provenance
   close : Call
-  subsets : Call
-  conflictingAlts : Call
-  uniqueAlt : Call
-  singleViableAlt : Call
-  allSubsetsConflict : Call
-  allSubsetsEqual : Call
+  subsets conflictingAlts uniqueAlt singleViableAlt allSubsetsConflict allSubsetsEqual : Call
   verdict : List ℕ → Call  -- the stop states
 
 -- what is lent for one call besides store and set, with any contents: scratch, and words for subsets and for alternatives
@@ -111,10 +101,10 @@ groupsIn o = groupsFrom (getD o 0 0) (drop 1 o)
 
 -- ---- one call
 
--- a reader's own: its set's words, and the contexts among its answers, the oldest first
+-- a reader's own: its set's words, and the contexts that it may name: 0, and those among its answers, the oldest first
 pub record Reader : Type 0 where
   pub set : List ℕ
-  pub answers : List ℕ
+  pub names : List ℕ
 
 -- what a call leaves: the answer, and the words of the store and of the reader's set
 pub record Done : Type 0 where
@@ -130,17 +120,9 @@ nth [] k = nowhere
 nth (c ∷ cs) zero = at c
 nth (c ∷ cs) (suc k) = nth cs k
 
-abbrev pub named : List ℕ → Name → Found
-named cs root = at 0
-named cs (answer k) = nth cs k
-
 -- a call where the name is of a context, and else none
-abbrev pub calling : {A : Type 0} → A → Found → (ℕ → A) → A
-calling otherwise (at c) call = call c
-calling otherwise nowhere call = otherwise
-
 abbrev pub on : List ℕ → Reader → Name → (ℕ → Done) → Done
-on w R n call = calling (leaving (plain unnamed) w (R .set)) (named (R .answers) n) call
+on w R n call = elim (nth (R .names) n) [ at c ↦ call c | nowhere ↦ leaving (plain unnamed) w (R .set) ]
 
 abbrev pub onStore : Reader → Left → Done
 onStore R x = leaving (told (x .reply)) (x .store) (R .set)
@@ -155,18 +137,11 @@ onSubsets w R read x = leaving (judged (x .reply) (read (x .output))) w (R .set)
 abbrev pub wordsOnly : List ℕ → Got ℕ
 wordsOnly o = plain (words o)
 
-abbrev pub config : ℕ → ℕ → ℕ → ℕ → ℕ → ℕ → Config
-config q a c m r p = record { state = q; alternative = a; context = c; semantic = m; reach = r; provenance = p }
-
 -- what reader R's call leaves, over the store w
 unfoldable pub step : Lent → List ℕ → Reader → Call → Done
 step L w R (singleton n r) = on w R n (λ c. onStore R (singletonCall w (L .scratch) c r))
 step L w R (merge n k m) = on w R n (λ a. on w R k (λ b. onStore R (mergeCall w (L .scratch) a b m)))
-step L w R (len n) = on w R n (λ c. onStore R (lenCall w (L .scratch) c))
-step L w R (isEmpty n) = on w R n (λ c. onStore R (isEmptyCall w (L .scratch) c))
-step L w R (hasEmptyPath n) = on w R n (λ c. onStore R (hasEmptyPathCall w (L .scratch) c))
-step L w R (returnState n i) = on w R n (λ c. onStore R (returnStateCall w (L .scratch) c i))
-step L w R (parent n i) = on w R n (λ c. onStore R (parentCall w (L .scratch) c i))
+step L w R (query q n) = on w R n (λ c. onStore R (queryCall q w (L .scratch) c))
 step L w R (freshSet f) = let x = freshSetCall (R .set) f in leaving (settled (x .0)) w (x .1)
 step L w R (add q a n m r p) = on w R n (λ c. onSet (addCall w (R .set) (L .scratch) (config q a c m r p)))
 step L w R close = onSet (closeCall w (R .set) (L .scratch))

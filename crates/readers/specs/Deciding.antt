@@ -6,9 +6,11 @@ use Prim.Native.Nat.{ℕ, suc}
 use lib.Dec.{eqb}
 use borrow.Author.Tests.{eq-eqb, ne-eqb}
 use Rattle.cases.specs.Numbers.{two}
+use Rattle.stacks.specs.Rules.{Stacks}
 use Rattle.arena.specs.Store.{Store}
+use Rattle.groups.specs.Lists.{which}
 use Rattle.readers.specs.Calls.{Call, Lent, Sized, Got, refused, Reader}
-use Rattle.readers.specs.Runs.{Stacks, see, By, put, freshStore, starting, onlyIf, only, Roomy}
+use Rattle.readers.specs.Runs.{see, By, put, freshStore, starting, only, Roomy}
 use Rattle.readers.specs.Programs.{Program, playFrom, play, turnsOf}
 use Rattle.readers.specs.Twins.{Own, Both, after}
 use Rattle.readers.specs.Turns.{roomy, moved, put-same, put-other, Inside, stays-inside, others-turn, own-turn}
@@ -27,7 +29,7 @@ alone-from : (P : ℕ → Program) (i : ℕ) (turns : List ℕ) (s t : Store) (P
     → Inside s Ps → Both s t (Ps i) (Qs i) → seen i ≡ seen′ i
     → Roomy (only i (pureFrom P s Ps seen turns)) → Roomy (pureFrom P t Qs seen′ (turnsOf i turns))
     → only i (pureFrom P s Ps seen turns) ≡ pureFrom P t Qs seen′ (turnsOf i turns)
-unfolding pureFrom only turnsOf
+unfolding pureFrom which
 alone-from P i [] s t Ps Qs seen seen′ inside h q a b = refl
 alone-from P i (k ∷ turns) s t Ps Qs seen seen′ inside h q a b =
     let x = P k (seen k) in
@@ -38,17 +40,17 @@ alone-from P i (k ∷ turns) s t Ps Qs seen seen′ inside h q a b =
     (λ e.
     let own : eqb k i ≡ true = eq-eqb k i e in
     let same : seen′ k ≡ seen k = ap seen′ e ∙ sym q ∙ ap seen (sym e) in
-    let a′ : (got ≡ refused 6 → ⊥) × Roomy (only i (pureFrom P (D .store) (put Ps k (moved (Ps k) D)) (put seen k (seen k ++ (got ∷ []))) turns)) = rw own at a in
-    let b′ : Roomy (pureFrom P t Qs seen′ (k ∷ turnsOf i turns)) = rw own at b in
+    let a′ : (got ≡ refused 6 → ⊥) × Roomy (only i (pureFrom P (D .store) (put Ps k (moved (Ps k) D)) (put seen k (seen k ++ (got ∷ []))) turns)) = rw (own, which) at a in
+    let b′ : Roomy (pureFrom P t Qs seen′ (k ∷ turnsOf i turns)) = rw (own, which) at b in
     let b″ = rw same at b′ in
     let turn = own-turn s Ps inside k x t Qs (roomy D (a′ .0)) (roomy (after t (Qs k) x) (b″ .0)) i e h in
     let known = put-same seen k _ i (sym e) ∙ sym (put-same seen′ k _ i (sym e)) in
-    rw (own, same, turn .0, alone-from P i turns _ _ _ _ _ _ kept (turn .1) known (rw (turn .0) at (a′ .1)) (b″ .1)))
+    rw (own, which, same, turn .0, alone-from P i turns _ _ _ _ _ _ kept (turn .1) known (rw (turn .0) at (a′ .1)) (b″ .1)))
     (λ n.
     let other : eqb k i ≡ false = ne-eqb k i n in
-    rw other
+    rw (other, which)
     (alone-from P i turns _ t _ Qs _ seen′ kept (others-turn s Ps inside k x t (Qs i) i n h)
-    (put-other seen k _ i (λ e. n (sym e)) ∙ q) (rw other at a) (rw other at b)))
+    (put-other seen k _ i (λ e. n (sym e)) ∙ q) (rw (other, which) at a) (rw (other, which) at b)))
 
 -- ---- over words
 

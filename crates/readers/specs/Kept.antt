@@ -30,7 +30,7 @@ use Rattle.store.specs.Checks.{Check, given, unless}
 use Rattle.store.specs.Checks.Laws.{Clear, unless-first, unless-next}
 use Rattle.interning.specs.SingletonCall.{singleS}
 use Rattle.interning.specs.SingletonCall.Laws.{single-mark, single-state}
-use Rattle.sets.specs.Config.{Config}
+use Rattle.sets.specs.Config.{Config, config}
 use Rattle.sets.specs.Lists.{any, all}
 use Rattle.sets.specs.Layout.{mostConfigs}
 use Rattle.sets.specs.Sets.{Set, emptySet, closedSet, sameKey, held, addTo}
@@ -38,9 +38,9 @@ use Rattle.sets.specs.Words.{distinct, goodSet}
 use Rattle.sets.specs.Sound.{good-known}
 use Rattle.sets.specs.Kept.{good-more, good-inserted, good-joined}
 use Rattle.configs.specs.Adds.{add-joined, add-new}
-use Rattle.readers.specs.Calls.{Name, Call, singleton, merge, len, isEmpty, hasEmptyPath, returnState, parent, freshSet, add, close, subsets, conflictingAlts, uniqueAlt, singleViableAlt}
-use Rattle.readers.specs.Calls.{allSubsetsConflict, allSubsetsEqual, verdict, Got, config, named, calling, plain, unnamed}
-use Rattle.readers.specs.Pure.{State, to, halt, singletonTo, mergeTo, addChecksOf, additionTo, verdictTo, stateAfter}
+use Rattle.readers.specs.Calls.{Name, Call, singleton, merge, query, freshSet, add, close, subsets, conflictingAlts, uniqueAlt, singleViableAlt}
+use Rattle.readers.specs.Calls.{allSubsetsConflict, allSubsetsEqual, verdict, Got, nth, plain, unnamed}
+use Rattle.readers.specs.Pure.{State, to, halt, calling, singletonTo, mergeTo, addChecksOf, additionTo, verdictTo, stateAfter}
 
 -- ---- what is made
 
@@ -95,9 +95,9 @@ pub record After (s : Store) (D : State) : Type 0 where
   pub good : Good (D .store) (D .set)
   pub grew : Grew s (D .store)
 
--- the answers, and 0, are numbers of the store
+-- what may be named is in the store
 abbrev pub Known : Store → List ℕ → Type 0
-Known s cs = (n : Name) (c : ℕ) → named cs n ≡ at c → c < length s
+Known s cs = (n : Name) (c : ℕ) → nth cs n ≡ at c → c < length s
 
 module _ (s : Store) (S : Set) (good : Good s S) where
   stays : (g : Got ℕ) → After s (to g s S)
@@ -174,23 +174,19 @@ module _ (s : Store) (S : Set) (good : Good s S) where
   named-after nowhere f h = stays _
 
   module _ (cs : List ℕ) (known : Known s cs) where
-    asked-after : (n : Name) (f : ℕ → Got ℕ) → After s (calling (to (plain unnamed) s S) (named cs n) (λ c. to (f c) s S))
-    asked-after n f = named-after (named cs n) _ (λ c e. stays _)
+    asked-after : (n : Name) (f : ℕ → Got ℕ) → After s (calling (to (plain unnamed) s S) (nth cs n) (λ c. to (f c) s S))
+    asked-after n f = named-after (nth cs n) _ (λ c e. stays _)
 
     pub step-after : (x : Call) → After s (stateAfter s S cs x)
     unfolding stateAfter goodSet all distinct
     step-after (singleton n r) =
-        named-after (named cs n) _ (λ c e. checked _ _ (λ ok. made _ (singleS s c r) _ (single-makes s (good .store) r c (known n c e) (ok .0)) (ok .1 .0)))
+        named-after (nth cs n) _ (λ c e. checked _ _ (λ ok. made _ (singleS s c r) _ (single-makes s (good .store) r c (known n c e) (ok .0)) (ok .1 .0)))
     step-after (merge n k m) =
-        named-after (named cs n) _ (λ a e. named-after (named cs k) _ (λ b q.
+        named-after (nth cs n) _ (λ a e. named-after (nth cs k) _ (λ b q.
         checked _ _ (λ ok. made _ (mergeS m s a b) _ (merge-makes s (good .store) m a b (known n a e) (known k b q)) (ok .0))))
-    step-after (len n) = asked-after n _
-    step-after (isEmpty n) = asked-after n _
-    step-after (hasEmptyPath n) = asked-after n _
-    step-after (returnState n i) = asked-after n _
-    step-after (parent n i) = asked-after n _
+    step-after (query q n) = asked-after n _
     step-after (freshSet f) = record { good = record { store = good .store; set = refl }; grew = grew-refl s }
-    step-after (add q a n m r p) = named-after (named cs n) _ (λ c e. addition-after (config q a c m r p) (known n c e))
+    step-after (add q a n m r p) = named-after (nth cs n) _ (λ c e. addition-after (config q a c m r p) (known n c e))
     step-after close = record { good = record { store = good .store; set = good .set }; grew = grew-refl s }
     step-after subsets = stays _
     step-after conflictingAlts = stays _

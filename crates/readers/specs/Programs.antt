@@ -2,9 +2,11 @@
 use mathlib.Core.List.{List, [], _∷_, _++_}
 use Prim.Native.Nat.{ℕ, suc}
 use lib.Dec.{eqb}
+use Rattle.stacks.specs.Rules.{Stacks}
 use Rattle.layout.specs.Decode.{storeOf}
+use Rattle.groups.specs.Lists.{which}
 use Rattle.readers.specs.Calls.{Call, Lent, Got, Reader, step}
-use Rattle.readers.specs.Runs.{Stacks, see, By, after, put, freshStore, starting, onlyIf}
+use Rattle.readers.specs.Runs.{see, By, after, put, freshStore, starting}
 
 -- the next call, by all that the reader has seen, the oldest first
 abbrev pub Program : Type 0
@@ -22,6 +24,5 @@ unfoldable pub play : (ℕ → Program) → (ℕ → Lent) → List ℕ → List
 play P lent turns = playFrom P lent 0 freshStore (λ i. starting) (λ i. []) turns
 
 -- the turns of reader i
-unfoldable pub turnsOf : ℕ → List ℕ → List ℕ
-turnsOf i [] = []
-turnsOf i (k ∷ turns) = onlyIf (eqb k i) k (turnsOf i turns)
+abbrev pub turnsOf : ℕ → List ℕ → List ℕ
+turnsOf i turns = which (λ k. eqb k i) turns

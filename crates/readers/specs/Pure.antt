@@ -11,10 +11,7 @@ use borrow.Author.Tests.{eq-eqb, ne-eqb, lt-ltb, not-false}
 use Rattle.cases.specs.Bools.{bool?, both-true}
 use Rattle.cases.specs.Numbers.{two}
 use Rattle.words.specs.Names.{emptyMark}
-use Rattle.stacks.specs.Forest.{mem}
-use Rattle.stacks.specs.Merge.{isMark}
-use Rattle.arena.specs.Store.{Store, tree, nodeAt, Found, at, nowhere}
-use Rattle.arena.specs.Kinds.{size}
+use Rattle.arena.specs.Store.{Store, Found, at, nowhere}
 use Rattle.arena.specs.Place.{mergeS}
 use Rattle.layout.specs.Layout.{storeWords, scratchWords, stop, count as contexts}
 use Rattle.layout.specs.Decode.{storeOf}
@@ -30,8 +27,8 @@ use Rattle.store.specs.Calls as Stores
 use Rattle.store.specs.Calls.{Reply, Left, kept, wrongLength, unsoundStore, unknownContext, noRoom, made}
 use Rattle.interning.specs.SingletonCall.{singleS, singletonChecks, singletonCall}
 use Rattle.contexts.specs.MergeCall.{mergeChecks, mergeCall}
-use Rattle.queries.specs.Queries.{stateAt, parentOf}
-use Rattle.sets.specs.Config.{Config}
+use Rattle.queries.specs.Queries.{answerTo}
+use Rattle.sets.specs.Config.{Config, config}
 use Rattle.sets.specs.Lists.{any}
 use Rattle.sets.specs.Layout.{mostConfigs, setWordsLength}
 use Rattle.sets.specs.Sets.{Set, emptySet, closedSet, sameKey, Addition, addTo}
@@ -49,9 +46,9 @@ use Rattle.outputs.specs.Outputs.{subsetsLength, altsLength, padded, groupWords
 use Rattle.verdicts.specs.Calls as Verdicts
 use Rattle.verdicts.specs.Calls.{VerdictReply, VerdictLeft, mostStops, conflictingAltSubsetsCall, conflictingAltsCall, uniqueAltCall, singleViableAltCall, allSubsetsConflictCall}
 use Rattle.verdicts.specs.Calls.{allSubsetsEqualCall, verdictCall}
-use Rattle.readers.specs.Calls.{Name, Call, singleton, merge, len, isEmpty, hasEmptyPath, returnState, parent, freshSet, add, close, subsets, conflictingAlts, uniqueAlt, singleViableAlt}
+use Rattle.readers.specs.Calls.{Name, Call, singleton, merge, query, freshSet, add, close, subsets, conflictingAlts, uniqueAlt, singleViableAlt}
 use Rattle.readers.specs.Calls.{allSubsetsConflict, allSubsetsEqual, verdict, Lent, Sized, ofSet, ofSubsets, words, unnamed, Part, part, Got, refused, context, groups, plain, told}
-use Rattle.readers.specs.Calls.{settled, judged, groupsFrom, groupsIn, Done, leaving, Reader, named, calling, onStore, onSet, onSubsets, config, wordsOnly, step}
+use Rattle.readers.specs.Calls.{settled, judged, groupsFrom, groupsIn, Done, leaving, Reader, nth, onStore, onSet, onSubsets, wordsOnly, step}
 
 -- ---- a call over a store and a set
 
@@ -66,6 +63,10 @@ to g s S = record { got = g; store = s; set = S }
 
 abbrev pub halt : Store → Set → ℕ → State
 halt s S n = to (refused n) s S
+
+-- a call where the name is of a context, and else none
+abbrev pub calling : {A : Type 0} → A → Found → (ℕ → A) → A
+calling otherwise o call = elim o [ at c ↦ call c | nowhere ↦ otherwise ]
 
 -- a subset as a reader gets it
 abbrev pub partOf : Group → Part ℕ
@@ -95,15 +96,11 @@ verdictTo s S stops =
     unless (given 10 (ltb mostStops (length stops)) ∷ []) (halt s S) (to (plain (ofSubsets (Verdicts.says (Answers.verdict stops (S .configs))))) s S)
 
 unfoldable pub stateAfter : Store → Set → List ℕ → Call → State
-stateAfter s S cs (singleton n r) = calling (to (plain unnamed) s S) (named cs n) (singletonTo s S r)
-stateAfter s S cs (merge n k m) = calling (to (plain unnamed) s S) (named cs n) (λ a. calling (to (plain unnamed) s S) (named cs k) (mergeTo s S m a))
-stateAfter s S cs (len n) = calling (to (plain unnamed) s S) (named cs n) (λ c. to (told (Stores.count (size (nodeAt s c)))) s S)
-stateAfter s S cs (isEmpty n) = calling (to (plain unnamed) s S) (named cs n) (λ c. to (told (Stores.holds (isMark (tree s c)))) s S)
-stateAfter s S cs (hasEmptyPath n) = calling (to (plain unnamed) s S) (named cs n) (λ c. to (told (Stores.holds (mem (tree s c) []))) s S)
-stateAfter s S cs (returnState n i) = calling (to (plain unnamed) s S) (named cs n) (λ c. to (told (stateAt (nodeAt s c) i)) s S)
-stateAfter s S cs (parent n i) = calling (to (plain unnamed) s S) (named cs n) (λ c. to (told (parentOf s c i)) s S)
+stateAfter s S cs (singleton n r) = calling (to (plain unnamed) s S) (nth cs n) (singletonTo s S r)
+stateAfter s S cs (merge n k m) = calling (to (plain unnamed) s S) (nth cs n) (λ a. calling (to (plain unnamed) s S) (nth cs k) (mergeTo s S m a))
+stateAfter s S cs (query q n) = calling (to (plain unnamed) s S) (nth cs n) (λ c. to (told (answerTo q s c)) s S)
 stateAfter s S cs (freshSet f) = to (plain (ofSet Sets.done)) s (emptySet f)
-stateAfter s S cs (add q a n m r p) = calling (to (plain unnamed) s S) (named cs n) (λ c. additionTo s S (config q a c m r p))
+stateAfter s S cs (add q a n m r p) = calling (to (plain unnamed) s S) (nth cs n) (λ c. additionTo s S (config q a c m r p))
 stateAfter s S cs close = to (plain (ofSet Sets.done)) s (closedSet S)
 stateAfter s S cs subsets = to (groups (map partOf (Grouped.groups (S .configs)))) s S
 stateAfter s S cs conflictingAlts = to (plain (words (altsWords (S .configs)))) s S
@@ -156,7 +153,7 @@ module _ (s : Store) (g : GoodStore s) (S : Set) (good : goodSet (length s) S �
 
   -- the reader with these answers
   abbrev reader : List ℕ → Reader
-  reader cs = record { set = v; answers = cs }
+  reader cs = record { set = v; names = cs }
 
   store-refusals : (n : ℕ) → onStore (reader []) (Stores.refusal w z n) ≡ wordsAfter (halt s S n)
   unfolding Stores.refusal told
@@ -303,24 +300,20 @@ module _ (s : Store) (g : GoodStore s) (S : Set) (good : goodSet (length s) S �
   on-is (at c) f h e = e c refl
   on-is nowhere f h e = refl
 
-  module _ (cs : List ℕ) (known : (n : Name) (c : ℕ) → named cs n ≡ at c → c < length s) where
+  module _ (cs : List ℕ) (known : (n : Name) (c : ℕ) → nth cs n ≡ at c → c < length s) where
     query-is : (n : Name) (f : List ℕ → ℕ → Reply) (h : ℕ → Reply) → ((c : ℕ) → f w c ≡ h c)
-        → calling (wordsAfter unnamedTo) (named cs n) (λ c. onStore (reader []) (Stores.asked w z c (f w c))) ≡ wordsAfter (calling unnamedTo (named cs n) (λ c. to (told (h c)) s S))
-    query-is n f h e = on-is (named cs n) _ _ (λ c q. ap (λ (r : Reply). onStore (reader []) (Stores.asked w z c r)) (e c) ∙ asked-is c (h c) (known n c q))
+        → calling (wordsAfter unnamedTo) (nth cs n) (λ c. onStore (reader []) (Stores.asked w z c (f w c))) ≡ wordsAfter (calling unnamedTo (nth cs n) (λ c. to (told (h c)) s S))
+    query-is n f h e = on-is (nth cs n) _ _ (λ c q. ap (λ (r : Reply). onStore (reader []) (Stores.asked w z c r)) (e c) ∙ asked-is c (h c) (known n c q))
 
     -- A call over sound words answers and leaves what it does over the store and the set that they hold.
     pub step-is : (x : Call) → step L w (reader cs) x ≡ wordsAfter (stateAfter s S cs x)
     unfolding step stateAfter judged unless uniqueAltCall singleViableAltCall allSubsetsConflictCall allSubsetsEqualCall verdictCall
-    step-is (singleton n r) = on-is (named cs n) _ _ (λ c e. singleton-is r c (known n c e))
+    step-is (singleton n r) = on-is (nth cs n) _ _ (λ c e. singleton-is r c (known n c e))
     step-is (merge n k m) =
-        on-is (named cs n) _ (λ a. calling unnamedTo (named cs k) (mergeTo s S m a)) (λ a e. on-is (named cs k) _ _ (λ b q. merge-is m a b (known n a e) (known k b q)))
-    step-is (len n) = query-is n (λ u c. Stores.count (size (nodeAt (storeOf u) c))) _ (λ c. rw (store-of-words s g))
-    step-is (isEmpty n) = query-is n (λ u c. Stores.holds (isMark (tree (storeOf u) c))) _ (λ c. rw (store-of-words s g))
-    step-is (hasEmptyPath n) = query-is n (λ u c. Stores.holds (mem (tree (storeOf u) c) [])) _ (λ c. rw (store-of-words s g))
-    step-is (returnState n i) = query-is n (λ u c. stateAt (nodeAt (storeOf u) c) i) _ (λ c. rw (store-of-words s g))
-    step-is (parent n i) = query-is n (λ u c. parentOf (storeOf u) c i) _ (λ c. rw (store-of-words s g))
+        on-is (nth cs n) _ (λ a. calling unnamedTo (nth cs k) (mergeTo s S m a)) (λ a e. on-is (nth cs k) _ _ (λ b q. merge-is m a b (known n a e) (known k b q)))
+    step-is (query q n) = query-is n (λ u c. answerTo q (storeOf u) c) _ (λ c. rw (store-of-words s g))
     step-is (freshSet f) = fresh-is f
-    step-is (add q a n m r p) = on-is (named cs n) _ _ (λ c e. add-is (config q a c m r p))
+    step-is (add q a n m r p) = on-is (nth cs n) _ _ (λ c e. add-is (config q a c m r p))
     step-is close = close-is
     step-is subsets = subsets-is
     step-is conflictingAlts = alts-is

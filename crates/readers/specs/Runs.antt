@@ -4,6 +4,7 @@ use mathlib.Core.Bool.{Bool, true, false}
 use mathlib.Core.List.{List, [], _∷_, _++_, map}
 use Prim.Native.Nat.{ℕ, suc}
 use lib.Dec.{eqb}
+use Rattle.stacks.specs.Rules.{Stacks}
 use Rattle.arena.specs.Store.{Store}
 use Rattle.arena.specs.Stands.{stands}
 use Rattle.layout.specs.Layout.{storeWords, blank}
@@ -11,13 +12,10 @@ use Rattle.layout.specs.Decode.{storeOf}
 use Rattle.store.specs.Calls.{freshCall}
 use Rattle.sets.specs.Layout.{setWordsLength}
 use Rattle.sets.specs.Calls.{freshSetCall}
+use Rattle.groups.specs.Lists.{All, which}
 use Rattle.readers.specs.Calls.{Call, Lent, part, Got, refused, context, groups, plain, Reader, Done, step}
 
 -- ---- what a reader sees
-
--- a set of stacks, by which stacks are in it
-abbrev pub Stacks : Type 0
-Stacks = List ℕ → Bool
 
 -- an answer with each context as the stacks it stands for
 unfoldable pub see : Store → Got ℕ → Got Stacks
@@ -42,7 +40,7 @@ pub record By (A : Type 0) : Type 0 where
 
 -- a reader after its call
 abbrev pub after : Reader → Done → Reader
-after R D = record { set = D .set; answers = R .answers ++ heard (D .got) }
+after R D = record { set = D .set; names = R .names ++ heard (D .got) }
 
 -- the same for each reader but i, who now has a
 abbrev pub put : {A : Type 0} → (ℕ → A) → ℕ → A → ℕ → A
@@ -61,23 +59,17 @@ unfoldable pub freshStore : List ℕ
 freshStore = freshCall (blank storeWords) .1
 
 unfoldable pub starting : Reader
-starting = record { set = freshSetCall (blank setWordsLength) true .1; answers = [] }
+starting = record { set = freshSetCall (blank setWordsLength) true .1; names = 0 ∷ [] }
 
 unfoldable pub run : (ℕ → Lent) → List (By Call) → List (By (Got Stacks))
 run lent xs = runFrom lent 0 freshStore (λ i. starting) xs
 
 -- ---- one reader's part
 
-abbrev pub onlyIf : {A : Type 0} → Bool → A → List A → List A
-onlyIf true x xs = x ∷ xs
-onlyIf false x xs = xs
-
 -- what is reader i's, in the same order
-unfoldable pub only : {A : Type 0} → ℕ → List (By A) → List (By A)
-only i [] = []
-only i (x ∷ xs) = onlyIf (eqb (x .reader) i) x (only i xs)
+abbrev pub only : {A : Type 0} → ℕ → List (By A) → List (By A)
+only i xs = which (λ x. eqb (x .reader) i) xs
 
 -- no call lacks room
 abbrev pub Roomy : List (By (Got Stacks)) → Type 0
-Roomy [] = Unit {0}
-Roomy (x ∷ xs) = (x .what ≡ refused 6 → ⊥) × Roomy xs
+Roomy xs = All (λ x. x .what ≡ refused 6 → ⊥) xs

@@ -9,6 +9,7 @@ use lib.ListN.{length}
 use borrow.Author.Tests.{eq-eqb, ne-eqb}
 use Rattle.cases.specs.Numbers.{two}
 use Rattle.stacks.specs.Forest.{Forest, mem}
+use Rattle.stacks.specs.Rules.{Stacks}
 use Rattle.arena.specs.Store.{Store, Found, at}
 use Rattle.arena.specs.Stands.{stands}
 use Rattle.arena.specs.Trees.{at-inj, at-nowhere}
@@ -16,8 +17,9 @@ use Rattle.arena.specs.Placed.{Grew, grew-refl, grew-length}
 use Rattle.encoding.specs.Good.{GoodStore}
 use Rattle.sets.specs.Sets.{Set}
 use Rattle.sets.specs.Kept.{good-more}
-use Rattle.readers.specs.Calls.{root, answer, Call, Part, part, Got, refused}
-use Rattle.readers.specs.Runs.{Stacks, see, heard, By, put, only, Roomy}
+use Rattle.groups.specs.Lists.{which}
+use Rattle.readers.specs.Calls.{Call, Part, part, Got, refused}
+use Rattle.readers.specs.Runs.{see, heard, By, put, only, Roomy}
 use Rattle.readers.specs.Pure.{State}
 use Rattle.readers.specs.Kept.{Good, After, Known, step-after}
 use Rattle.readers.specs.Alike.{each-append, each-wider, each-same, Founds, both, neither, Parts, parts, Gots, refusals, contexts, grouped, plains, sets-wider, nth-alike, heard-alike}
@@ -43,7 +45,7 @@ roomy D h e = h (ap (see (D .store)) e)
 -- ---- the relation is kept
 
 abbrev pub moved : Own → State → Own
-moved P D = record { set = D .set; answers = P .answers ++ heard (D .got) }
+moved P D = record { set = D .set; names = P .names ++ heard (D .got) }
 
 good-grew : (s u : Store) (S : Set) → Grew s u → GoodStore u → Good s S → Good u S
 good-grew s u S f g h = record { store = g; set = good-more (length s) (length u) S (grew-length s u f) (h .set) }
@@ -56,7 +58,7 @@ both-grew s t u v P Q f gu g gv h =
       left = good-grew s u (P .set) f gu (h .left);
       right = good-grew t v (Q .set) g gv (h .right);
       zeros = still 0 0 (h .zeros);
-      answers = each-wider (Like s t) (Like u v) still (h .answers);
+      names = each-wider (Like s t) (Like u v) still (h .names);
       sets = sets-wider (Like s t) (Like u v) still (h .sets);
     }
 
@@ -68,7 +70,7 @@ both-after s t P Q D E h f g k =
       left = f .good;
       right = g .good;
       zeros = still 0 0 (h .zeros);
-      answers = each-append _ (each-wider (Like s t) _ still (h .answers)) (heard-alike _ (k .gots));
+      names = each-append _ (each-wider (Like s t) _ still (h .names)) (heard-alike _ (k .gots));
       sets = k .sets;
     }
 
@@ -89,19 +91,17 @@ founds-right s t (both {d = a} r) c e = rw (← at-inj a c e) (r .right)
 founds-right s t neither c e = absurd (at-nowhere c (sym e))
 
 module _ (s t : Store) (P Q : Own) (h : Both s t P Q) where
-  pub known-left : Known s (P .answers)
-  known-left root c e = founds-left s t (both (h .zeros)) c e
-  known-left (answer k) c e = founds-left s t (nth-alike (Like s t) k (h .answers)) c e
+  pub known-left : Known s (P .names)
+  known-left k c e = founds-left s t (nth-alike (Like s t) k (h .names)) c e
 
-  known-right : Known t (Q .answers)
-  known-right root c e = founds-right s t (both (h .zeros)) c e
-  known-right (answer k) c e = founds-right s t (nth-alike (Like s t) k (h .answers)) c e
+  known-right : Known t (Q .names)
+  known-right k c e = founds-right s t (nth-alike (Like s t) k (h .names)) c e
 
   pub after-left : (x : Call) → After s (after s P x)
-  after-left x = step-after s (P .set) (h .left) (P .answers) known-left x
+  after-left x = step-after s (P .set) (h .left) (P .names) known-left x
 
   after-right : (x : Call) → After t (after t Q x)
-  after-right x = step-after t (Q .set) (h .right) (Q .answers) known-right x
+  after-right x = step-after t (Q .set) (h .right) (Q .names) known-right x
 
 -- every reader's contexts are in the store: each is alike with itself
 abbrev pub Inside : Store → (ℕ → Own) → Type 0
@@ -158,7 +158,7 @@ pureFrom s Ps (x ∷ xs) =
 
 pub alone-from : (i : ℕ) (xs : List (By Call)) (s t : Store) (Ps Qs : ℕ → Own) → Inside s Ps → Both s t (Ps i) (Qs i)
     → Roomy (only i (pureFrom s Ps xs)) → Roomy (pureFrom t Qs (only i xs)) → only i (pureFrom s Ps xs) ≡ pureFrom t Qs (only i xs)
-unfolding pureFrom only
+unfolding pureFrom which
 alone-from i [] s t Ps Qs inside h a b = refl
 alone-from i (x ∷ xs) s t Ps Qs inside h a b =
     let k = x .reader in
@@ -168,10 +168,10 @@ alone-from i (x ∷ xs) s t Ps Qs inside h a b =
     two k i
     (λ e.
     let own : eqb k i ≡ true = eq-eqb k i e in
-    let a′ : (see (D .store) (D .got) ≡ refused 6 → ⊥) × Roomy (only i (pureFrom (D .store) Ps′ xs)) = rw own at a in
-    let b′ : Roomy (pureFrom t Qs (x ∷ only i xs)) = rw own at b in
+    let a′ : (see (D .store) (D .got) ≡ refused 6 → ⊥) × Roomy (only i (pureFrom (D .store) Ps′ xs)) = rw (own, which) at a in
+    let b′ : Roomy (pureFrom t Qs (x ∷ only i xs)) = rw (own, which) at b in
     let turn = own-turn s Ps inside k (x .what) t Qs (roomy D (a′ .0)) (roomy (after t (Qs k) (x .what)) (b′ .0)) i e h in
-    rw (own, turn .0, alone-from i xs _ _ _ _ kept (turn .1) (a′ .1) (b′ .1)))
+    rw (own, which, turn .0, alone-from i xs _ _ _ _ kept (turn .1) (a′ .1) (b′ .1)))
     (λ n.
     let other : eqb k i ≡ false = ne-eqb k i n in
-    rw other (alone-from i xs _ t _ Qs kept (others-turn s Ps inside k (x .what) t (Qs i) i n h) (rw other at a) (rw other at b)))
+    rw (other, which) (alone-from i xs _ t _ Qs kept (others-turn s Ps inside k (x .what) t (Qs i) i n h) (rw (other, which) at a) (rw (other, which) at b)))

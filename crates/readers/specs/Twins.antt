@@ -24,8 +24,9 @@ use Rattle.encoding.specs.Decide.{fits}
 use Rattle.store.specs.Checks.{Check, given, unless}
 use Rattle.store.specs.Calls as Stores
 use Rattle.interning.specs.SingletonCall.{singleS}
-use Rattle.queries.specs.Queries.{stateAt, parentAt, parentOf}
-use Rattle.sets.specs.Config.{Config}
+use Rattle.queries.specs.Queries.{Question, entryCount, isEmpty, hasEmptyPath, entryState, entryParent, entryAt, answerTo}
+use Rattle.queries.specs.Listed.{stateAt, parentAt, parentOf}
+use Rattle.sets.specs.Config.{Config, config}
 use Rattle.sets.specs.Lists.{any}
 use Rattle.sets.specs.Layout.{mostConfigs}
 use Rattle.sets.specs.Sets.{Set, emptySet, withConfigs, closedSet, sameKey, held, joinedAll, addTo}
@@ -39,10 +40,10 @@ use Rattle.groups.specs.Renamed.{Each, more, moved, Twin, twin, OneToOne, twin-
 use Rattle.outputs.specs.Outputs.{altsLength, padded, altsWords}
 use Rattle.verdicts.specs.Calls as Verdicts
 use Rattle.verdicts.specs.Calls.{mostStops}
-use Rattle.readers.specs.Calls.{Name, root, answer, Call, singleton, merge, len, isEmpty, hasEmptyPath, returnState, parent, freshSet, add, close, subsets, conflictingAlts, uniqueAlt}
+use Rattle.readers.specs.Calls.{Name, Call, singleton, merge, query, freshSet, add, close, subsets, conflictingAlts, uniqueAlt}
 use Rattle.readers.specs.Calls.{singleViableAlt, allSubsetsConflict, allSubsetsEqual, verdict, ofStore, ofSet, ofSubsets, words, unnamed, Got, refused, context, groups, plain, told}
-use Rattle.readers.specs.Calls.{named, calling, config}
-use Rattle.readers.specs.Pure.{State, to, halt, partOf, singletonTo, mergeTo, addChecksOf, additionTo, verdictTo, stateAfter}
+use Rattle.readers.specs.Calls.{nth}
+use Rattle.readers.specs.Pure.{State, to, halt, calling, partOf, singletonTo, mergeTo, addChecksOf, additionTo, verdictTo, stateAfter}
 use Rattle.readers.specs.Kept.{Makes, singleT, single-makes, merge-makes, Good, Known, held-known, found?}
 use Rattle.readers.specs.Alike.{each-append, each-wider, Founds, both, neither, Sets, set, Gots, refusals, contexts, grouped, plains, configs-wider, sets-wider, nth-alike, parts-alike}
 use Rattle.readers.specs.Alike.{held-alike, join-alike, full-alike}
@@ -99,7 +100,7 @@ module _ (R : ℕ → ℕ → Type 0) where
   size-alike (pushes r h l) = ap suc (size-alike l)
 
   state-alike : {n k : Node} (i : ℕ) → Nodes R n k → Gots R (told (stateAt n i)) (told (stateAt k i))
-  unfolding stateAt told
+  unfolding entryAt told
   state-alike i ends = plains (ofStore Stores.none)
   state-alike zero dollars = plains (ofStore (Stores.state emptyMark))
   state-alike (suc i) dollars = plains (ofStore Stores.none)
@@ -107,7 +108,7 @@ module _ (R : ℕ → ℕ → Type 0) where
   state-alike (suc i) (pushes r h l) = state-alike i l
 
   parent-alike : {n k : Node} (i : ℕ) → R 0 0 → Nodes R n k → Gots R (told (parentAt n i)) (told (parentAt k i))
-  unfolding parentAt told
+  unfolding entryAt told
   parent-alike i z ends = plains (ofStore Stores.none)
   parent-alike zero z dollars = contexts z
   parent-alike (suc i) z dollars = plains (ofStore Stores.none)
@@ -199,7 +200,7 @@ module _ (s t : Store) {S T : Set} (w : Good s S) (v : Good t T) (l : Sets (Like
       two c 0 (λ e. eq-eqb c 0 e ∙ sym (eq-eqb d 0 (f .0 e))) (λ n. ne-eqb c 0 n ∙ sym (ne-eqb d 0 (λ e. n (f .1 e))))
 
   parent-of : Like s t 0 0 → (i c d : ℕ) → Like s t c d → Gots (Like s t) (told (parentOf s c i)) (told (parentOf t d i))
-  unfolding parentOf told
+  unfolding told
   parent-of z i c d h = go (eqb c 0) (eqb d 0) (zeros z c d h)
     where
       go : (b b′ : Bool) → b ≡ b′ → Gots (Like s t) (told (elim b [ true ↦ Stores.none | false ↦ parentAt (nodeAt s c) i ]))
@@ -286,39 +287,46 @@ module _ (s t : Store) (S : Set) {ys : List Config} (w : Good s S) (v : Good t (
 
 -- ---- a reader in two stores
 
--- its set and its answers
+-- its set and what it may name
 pub record Own : Type 0 where
   pub set : Set
-  pub answers : List ℕ
+  pub names : List ℕ
 
 pub record Both (s t : Store) (P Q : Own) : Type 0 where
   pub left : Good s (P .set)
   pub right : Good t (Q .set)
   pub zeros : Like s t 0 0
-  pub answers : Each (Like s t) (P .answers) (Q .answers)
+  pub names : Each (Like s t) (P .names) (Q .names)
   pub sets : Sets (Like s t) (P .set) (Q .set)
 
 abbrev pub after : Store → Own → Call → State
-after s P x = stateAfter s (P .set) (P .answers) x
+after s P x = stateAfter s (P .set) (P .names) x
 
 module _ (s t : Store) (P Q : Own) (h : Both s t P Q) where
-  named-alike : (n : Name) → Founds (Like s t) (named (P .answers) n) (named (Q .answers) n)
-  named-alike root = both (h .zeros)
-  named-alike (answer k) = nth-alike (Like s t) k (h .answers)
+  named-alike : (n : Name) → Founds (Like s t) (nth (P .names) n) (nth (Q .names) n)
+  named-alike n = nth-alike (Like s t) n (h .names)
 
   -- a call on a named context
   naming : (n : Name) (f g : ℕ → State) → ((c d : ℕ) → Like s t c d → Keeps (f c) (g d))
-      → Keeps (calling (to (plain unnamed) s (P .set)) (named (P .answers) n) f) (calling (to (plain unnamed) t (Q .set)) (named (Q .answers) n) g)
+      → Keeps (calling (to (plain unnamed) s (P .set)) (nth (P .names) n) f) (calling (to (plain unnamed) t (Q .set)) (nth (Q .names) n) g)
   naming n f g = named-kept s t (h .left) (h .right) (h .sets) f g (named-alike n)
 
   -- a query of it
   asking : (n : Name) (f g : ℕ → Got ℕ) → ((c d : ℕ) → Like s t c d → Gots (Like s t) (f c) (g d))
-      → Keeps (calling (to (plain unnamed) s (P .set)) (named (P .answers) n) (λ c. to (f c) s (P .set)))
-      (calling (to (plain unnamed) t (Q .set)) (named (Q .answers) n) (λ d. to (g d) t (Q .set)))
+      → Keeps (calling (to (plain unnamed) s (P .set)) (nth (P .names) n) (λ c. to (f c) s (P .set)))
+      (calling (to (plain unnamed) t (Q .set)) (nth (Q .names) n) (λ d. to (g d) t (Q .set)))
   asking n f g k = naming n _ _ (λ c d r. stay s t (h .left) (h .right) (h .sets) (k c d r))
 
   told-same : (a b : Stores.Reply) → a ≡ b → Gots (Like s t) (told a) (told a) → Gots (Like s t) (told a) (told b)
   told-same a b e g = rw (← e) g
+
+  query-alike : (q : Question) (c d : ℕ) → Like s t c d → Gots (Like s t) (told (answerTo q s c)) (told (answerTo q t d))
+  unfolding told
+  query-alike entryCount c d k = told-same _ _ (ap Stores.count (size-alike (Like s t) (nodes s t (h .left) (h .right) (h .sets) c d k))) (plains _)
+  query-alike isEmpty c d k = told-same _ _ (ap (λ (F : Forest). Stores.holds (isMark F)) (k .same)) (plains _)
+  query-alike hasEmptyPath c d k = told-same _ _ (ap (λ (F : Forest). Stores.holds (mem F [])) (k .same)) (plains _)
+  query-alike (entryState i) c d k = state-alike (Like s t) i (nodes s t (h .left) (h .right) (h .sets) c d k)
+  query-alike (entryParent i) c d k = parent-of s t (h .left) (h .right) (h .sets) (h .zeros) i c d k
 
   -- a call on the set
   owning : (f g : Set → State) → ((S : Set) (ys : List Config) → Good s S → Good t (withConfigs S ys) → Each (Twin (Like s t)) (S .configs) ys → Keeps (f S) (g (withConfigs S ys)))
@@ -333,16 +341,11 @@ module _ (s t : Store) (P Q : Own) (h : Both s t P Q) where
   unfolding stateAfter told
   step-kept (singleton n r) = naming n _ _ (λ c d. singleton-kept s t (h .left) (h .right) (h .sets) r c d)
   step-kept (merge n k m) = naming n _ _ (λ a a′ p. naming k _ _ (λ b b′ q. merge-kept s t (h .left) (h .right) (h .sets) m a b a′ b′ p q))
-  step-kept (len n) =
-      asking n _ _ (λ c d k. told-same _ _ (ap Stores.count (size-alike (Like s t) (nodes s t (h .left) (h .right) (h .sets) c d k))) (plains _))
-  step-kept (isEmpty n) = asking n _ _ (λ c d k. told-same _ _ (ap (λ (F : Forest). Stores.holds (isMark F)) (k .same)) (plains _))
-  step-kept (hasEmptyPath n) = asking n _ _ (λ c d k. told-same _ _ (ap (λ (F : Forest). Stores.holds (mem F [])) (k .same)) (plains _))
-  step-kept (returnState n i) = asking n _ _ (λ c d k. state-alike (Like s t) i (nodes s t (h .left) (h .right) (h .sets) c d k))
-  step-kept (parent n i) = asking n _ _ (λ c d k. parent-of s t (h .left) (h .right) (h .sets) (h .zeros) i c d k)
+  step-kept (query q n) = asking n _ _ (query-alike q)
   step-kept (freshSet f) = λ a b. record { gots = plains _; sets = set (emptySet f) Renamed.none }
   step-kept (add q a n m r p) =
-      owning (λ S. calling (to (plain unnamed) s S) (named (P .answers) n) (λ c. additionTo s S (config q a c m r p)))
-      (λ T. calling (to (plain unnamed) t T) (named (Q .answers) n) (λ c. additionTo t T (config q a c m r p)))
+      owning (λ S. calling (to (plain unnamed) s S) (nth (P .names) n) (λ c. additionTo s S (config q a c m r p)))
+      (λ T. calling (to (plain unnamed) t T) (nth (Q .names) n) (λ c. additionTo t T (config q a c m r p)))
       (λ S ys w v l. named-kept s t w v (set S l) _ _ (named-alike n) (λ c d k. add-kept s t S w v l (config q a c m r p) d k))
   step-kept close =
       owning (λ S. to (plain (ofSet SetCalls.done)) s (closedSet S)) (λ T. to (plain (ofSet SetCalls.done)) t (closedSet T))

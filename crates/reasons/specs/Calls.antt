@@ -1,13 +1,11 @@
 -- To believe: the question for the reason, as a function of what came in; refused as the verdict is, and for an output that has not 257 words.
 use mathlib.Core.List.{List, [], _∷_}
 use Prim.Native.Nat.{ℕ}
-use lib.Dec.{ltb}
 use lib.ListN.{length}
-use Rattle.store.specs.Checks.{given}
 use Rattle.sets.specs.Words.{setOf}
 use Rattle.groups.specs.Reason.{Reason, stop, none, one, clash, reason}
 use Rattle.outputs.specs.Outputs.{altsLength, padded}
-use Rattle.verdicts.specs.Calls.{VerdictLeft, because, readCall, mostStops}
+use Rattle.verdicts.specs.Calls.{VerdictLeft, because, readCall, tooManyStops}
 
 -- the alternatives that clash
 unfoldable pub clashing : Reason → List ℕ
@@ -23,4 +21,4 @@ reasonWords r = padded altsLength (length (clashing r) ∷ clashing r)
 unfoldable pub whyCall : List ℕ → List ℕ → List ℕ → List ℕ → List ℕ → VerdictLeft
 whyCall w v z stops o =
     let r = reason stops (setOf v .configs) in
-    readCall altsLength (given 10 (ltb mostStops (length stops)) ∷ []) w v z o (because r) (reasonWords r)
+    readCall altsLength (tooManyStops stops) w v z o (because r) (reasonWords r)

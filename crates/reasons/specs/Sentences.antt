@@ -10,8 +10,8 @@ use lib.ListN.{length}
 use borrow.Author.Tests.{ltb-true, lt-ltb}
 use Rattle.cases.specs.Bools.{never-both}
 use Rattle.store.specs.Calls.{zeros}
-use Rattle.store.specs.Checks.{Check, given, unless, reason as because-of}
-use Rattle.store.specs.Checks.Laws.{absent, once, Clear, passed-clear, clear-passed}
+use Rattle.store.specs.Checks.{Check, given, unless}
+use Rattle.store.specs.Checks.Laws.{Clear, passed-clear, clear-passed}
 use Rattle.sets.specs.Config.{Config}
 use Rattle.sets.specs.Words.{setOf}
 use Rattle.sets.specs.Calls.{lentLengths, lentChecks}
@@ -20,9 +20,8 @@ use Rattle.groups.specs.Reason.{Reason, reason, Holds, NoEarlier}
 use Rattle.groups.specs.Reason as Reasons
 use Rattle.groups.specs.Reason.Laws.{reason-holds, reason-first, reason-forces}
 use Rattle.outputs.specs.Outputs.{altsLength}
-use Rattle.verdicts.specs.Calls.{refused, says, because, VerdictLeft, verdictLeft, readRefusal, readCall, mostStops, verdictCall}
-use Rattle.verdicts.specs.Reasons.{askReasons}
-use Rattle.verdicts.specs.Refused.{checksOf, refusal-reply, ask-refuses, Refuses}
+use Rattle.verdicts.specs.Calls.{refused, says, because, VerdictLeft, verdictLeft, readRefusal, readChecks, readCall, tooManyStops, verdictCall}
+use Rattle.verdicts.specs.Refused.{refusal-reply, ask-refuses, Refuses}
 use Rattle.reasons.specs.Calls.{reasonWords, whyCall}
 
 because-no : (r : Reason) (k : ℕ) → because r ≡ refused k → ⊥
@@ -37,26 +36,21 @@ module _ (w v z stops o : List ℕ) where
   abbrev cs : List Config
   cs = setOf v .configs
 
-  abbrev tenth : List Check
-  tenth = given 10 (ltb mostStops (length stops)) ∷ []
-
   -- refused exactly when that is due: as the verdict is, and for an output that has not 257 words
-  pub why-refuses : Refuses (whyCall w v z stops o) (askReasons altsLength w v z o (because-of 10 (mostStops < length stops) ∷ [])) z o
-  unfolding whyCall lentChecks once absent
-  why-refuses =
-      ask-refuses altsLength w v z o tenth (because-of 10 (mostStops < length stops) ∷ [])
-      (refl, ltb-true mostStops (length stops), λ f h. never-both (lt-ltb mostStops (length stops) h) f, λ f. tt) _ _ (because-no _) refl
+  pub why-refuses : Refuses (whyCall w v z stops o) (readChecks altsLength (tooManyStops stops) w v z o) z o
+  unfolding whyCall
+  why-refuses = ask-refuses altsLength (tooManyStops stops) w v z o _ _ (because-no _)
 
   module _ (r : Reason) (e : whyCall w v z stops o .reply ≡ because r) where
-    passed : Clear (checksOf altsLength w v z o tenth)
+    passed : Clear (readChecks altsLength (tooManyStops stops) w v z o)
     unfolding whyCall readCall
     passed =
         passed-clear (readRefusal z o) (verdictLeft (because (reason stops cs)) zeros (reasonWords (reason stops cs))) (λ l. l .reply ≡ because r)
-        (λ n g. because-no r n (sym g ∙ refusal-reply z o n)) (checksOf altsLength w v z o tenth) e
+        (λ n g. because-no r n (sym g ∙ refusal-reply z o n)) (readChecks altsLength (tooManyStops stops) w v z o) e
 
     goes : whyCall w v z stops o ≡ verdictLeft (because (reason stops cs)) zeros (reasonWords (reason stops cs))
     unfolding whyCall readCall
-    goes = clear-passed (readRefusal z o) _ (checksOf altsLength w v z o tenth) passed
+    goes = clear-passed (readRefusal z o) _ (readChecks altsLength (tooManyStops stops) w v z o) passed
 
     is-reason : r ≡ reason stops cs
     is-reason = let q : because (reason stops cs) ≡ because r = sym (ap (λ (l : VerdictLeft). l .reply) goes) ∙ e in cc
@@ -78,6 +72,6 @@ module _ (w v z stops o : List ℕ) where
     unfolding verdictCall readCall lentChecks
     why-verdict =
         ap (λ (l : VerdictLeft). l .reply)
-        (clear-passed (readRefusal z []) (verdictLeft (says (Answers.verdict stops cs)) zeros []) (checksOf 0 w v z [] tenth)
+        (clear-passed (readRefusal z []) (verdictLeft (says (Answers.verdict stops cs)) zeros []) (readChecks 0 (tooManyStops stops) w v z [])
         (no-output (lentLengths w v z) (eqb (length o) altsLength) (passed .0), passed .1))
         ∙ ap says (reason-forces stops cs r why-holds why-first)

@@ -8,7 +8,8 @@ use Rattle.arena.specs.Store.{find, nowhere}
 use Rattle.layout.specs.Layout.{scratchWords, mostEntries, stop, count, kind, first, second, parent, state}
 use Rattle.layout.specs.Listing.Laws.{Entries}
 use Rattle.layout.specs.Decode.{nodeIn, storeIn, storeOf}
-use Rattle.layout.specs.Sound.{lengths, SoundWords}
+use Rattle.layout.specs.Sound.{SoundWords}
+use Rattle.encoding.specs.Reads.{lengths}
 use Rattle.index.specs.Records.{Records, Stacked, Proper, stackNode}
 use Rattle.index.specs.Index.{Indexed}
 use Rattle.recordcheck.specs.declared.inner.check.Checked.{Checked}

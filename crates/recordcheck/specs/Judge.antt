@@ -13,8 +13,7 @@ use Rattle.layout.specs.Scratch.{stackParent, stackState}
 use Rattle.layout.specs.Listing.Laws.{Entries, listing-rise, listing-full}
 use Rattle.layout.specs.Decode.{nodeIn, storeIn}
 use Rattle.layout.specs.Decode.Laws.{store-length, node-one, node-many}
-use Rattle.layout.specs.Sound.{lengths}
-use Rattle.encoding.specs.Reads.{lengths-one, lengths-two}
+use Rattle.encoding.specs.Reads.{lengths, lengths-one, lengths-two}
 use Rattle.index.specs.Records.{Records, Proper, stackNode}
 use Rattle.index.specs.Index.{Indexed}
 use Rattle.index.specs.Writes.{putEntry, Loaded}

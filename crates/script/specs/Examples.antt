@@ -2,12 +2,12 @@
 -- Nothing here has to be believed.
 use mathlib.Core.Path.{_≡_, refl}
 use mathlib.Core.Bool.{true, false}
-use mathlib.Core.List.{List, [], _∷_, _++_}
+use mathlib.Core.List.{List, [], _∷_, _++_, flatMap}
 use Prim.Native.Nat.{ℕ}
 use Rattle.stacks.specs.Merge.{isMark, wild, mergeE, mergeT}
 use Rattle.arena.specs.Store.{end, dollar, push, same, find, tree, treeOf, nodeAt}
 use Rattle.arena.specs.Place.{listed, intern, placeE, place, mergeS}
-use Rattle.arena.specs.Kinds.{size, kindOf}
+use Rattle.arena.specs.Kinds.{size}
 use Rattle.arena.specs.Room.{pool, room}
 use Rattle.layout.specs.Layout.{blank, count, used, kind, first, second, parent, state}
 use Rattle.layout.specs.Listing.{listing}
@@ -23,7 +23,7 @@ use Rattle.sets.specs.Config.{Config}
 use Rattle.sets.specs.Lists.{any, all}
 use Rattle.sets.specs.Layout.{fields, field, configAt, configCount, flagWord, flag}
 use Rattle.sets.specs.Sets.{hasSemantic, dips, key, sameKey, held, joined, joinedAll, addTo}
-use Rattle.sets.specs.Words.{bit, flagsOf, allFields, setWords, configsIn, distinct, goodSet, soundSet}
+use Rattle.sets.specs.Words.{bit, flagsOf, setWords, configsIn, distinct, goodSet, soundSet}
 use Rattle.sets.specs.Calls.{lentLengths, lentChecks, addChecks, freshSetCall, addCall, closeCall}
 use Rattle.sets.specs.Calls.{refusal as setRefusal}
 use Rattle.groups.specs.Lists.{which}
@@ -43,7 +43,7 @@ use Rattle.script.specs.Steps.{fresh, readingStep, stepOf, runFrom, runO
 
 -- the definitions that the examples compute, by layer, under one name
 unfoldable stores : Unit {0}
-unfolding isMark wild mergeE mergeT same find tree treeOf nodeAt listed intern placeE place mergeS size kindOf pool room
+unfolding isMark wild mergeE mergeT same find tree treeOf nodeAt listed intern placeE place mergeS size pool room
 stores = tt
 
 unfoldable words : Unit {0}
@@ -56,7 +56,7 @@ checks = tt
 
 unfoldable configs : Unit {0}
 unfolding any all fields field configAt configCount flagWord flag hasSemantic dips key sameKey held joined joinedAll addTo idOf markOf mergedMarks bit flagsOf
-    allFields setWords configsIn distinct goodSet soundSet
+    flatMap setWords configsIn distinct goodSet soundSet
 configs = tt
 
 unfoldable subsets : Unit {0}

@@ -1,6 +1,6 @@
 -- Words that hold a set are its words, and a set's words hold it. Nothing here has to be believed.
 use mathlib.Core.Path.{_≡_, refl, sym, ap, _∙_}
-use mathlib.Core.List.{List, [], _∷_, _++_, append-assoc}
+use mathlib.Core.List.{List, [], _∷_, _++_, append-assoc, flatMap}
 use Prim.Native.Nat.{ℕ, zero, suc, _<_, _≤_, _+_, _*_, _-_}
 use native.Mathlib.Omega.{arith}
 use lib.ListN.{length, getD, take, drop, length-append, length-drop, take-append-drop}
@@ -10,7 +10,7 @@ use Rattle.encoding.specs.Writes.{length-blank, getD-blank}
 use Rattle.sets.specs.Config.{Config}
 use Rattle.sets.specs.Layout.{mostConfigs, configWords, firstConfig, setWordsLength, fields, field, configAt, configCount, flagWord, flag}
 use Rattle.sets.specs.Sets.{Set, hasSemantic, dips}
-use Rattle.sets.specs.Words.{flagsOf, allFields, setWords, configsIn, setOf}
+use Rattle.sets.specs.Words.{flagsOf, setWords, configsIn, setOf}
 use Rattle.sets.specs.Flags.{flags-are, four-first, four-fourth}
 use Rattle.sets.specs.Listed.{configs-length}
 
@@ -57,26 +57,26 @@ config-agree u v i h =
 
 -- ---- the words of all configs
 
-all-more : (cs : List Config) (x : Config) → allFields (cs ++ (x ∷ [])) ≡ allFields cs ++ fields x
-unfolding allFields fields
+all-more : (cs : List Config) (x : Config) → flatMap fields (cs ++ (x ∷ [])) ≡ flatMap fields cs ++ fields x
+unfolding flatMap fields
 all-more [] x = refl
-all-more (y ∷ ys) x = ap (λ (l : List ℕ). fields y ++ l) (all-more ys x) ∙ sym (append-assoc (fields y) (allFields ys) (fields x))
+all-more (y ∷ ys) x = ap (λ (l : List ℕ). fields y ++ l) (all-more ys x) ∙ sym (append-assoc (fields y) (flatMap fields ys) (fields x))
 
-all-taken : (v : List ℕ) (n : ℕ) → firstConfig + configWords * n ≤ length v → allFields (configsIn v n) ≡ take (configWords * n) (drop firstConfig v)
-unfolding configsIn allFields
+all-taken : (v : List ℕ) (n : ℕ) → firstConfig + configWords * n ≤ length v → flatMap fields (configsIn v n) ≡ take (configWords * n) (drop firstConfig v)
+unfolding configsIn flatMap
 all-taken v zero h = refl
 all-taken v (suc n) h =
     let e : configWords * suc n ≡ configWords * n + configWords = omega arith in
     all-more (configsIn v n) (configAt v n)
     ∙ rw (all-taken v n (omega arith), fields-taken v n (omega arith), e, take-add (configWords * n) configWords (drop firstConfig v), drop-drop (configWords * n) firstConfig v)
 
-pub all-length : (cs : List Config) → length (allFields cs) ≡ configWords * length cs
-unfolding allFields fields
+pub all-length : (cs : List Config) → length (flatMap fields cs) ≡ configWords * length cs
+unfolding flatMap fields
 all-length [] = refl
 all-length (x ∷ xs) = omega (arith, all-length xs)
 
-all-configs : (xs ys : List Config) → length xs ≡ length ys → allFields xs ≡ allFields ys → xs ≡ ys
-unfolding allFields fields
+all-configs : (xs ys : List Config) → length xs ≡ length ys → flatMap fields xs ≡ flatMap fields ys → xs ≡ ys
+unfolding flatMap fields
 all-configs [] [] l e = refl
 all-configs [] (y ∷ ys) l e = absurd (omega arith)
 all-configs (x ∷ xs) [] l e = absurd (omega arith)
@@ -103,9 +103,9 @@ unfolding setWords configCount flagWord
 held-words v S h =
     let n : ℕ = length (S .configs) in
     let j : ℕ = configWords * n in
-    let body : drop firstConfig v ≡ allFields (S .configs) ++ drop j (drop firstConfig v) =
+    let body : drop firstConfig v ≡ flatMap fields (S .configs) ++ drop j (drop firstConfig v) =
     sym (take-append-drop j (drop firstConfig v))
-    ∙ ap (λ (l : List ℕ). l ++ drop j (drop firstConfig v)) (sym (all-taken v n (omega (arith, h .sized, h .few))) ∙ ap allFields (h .configs)) in
+    ∙ ap (λ (l : List ℕ). l ++ drop j (drop firstConfig v)) (sym (all-taken v n (omega (arith, h .sized, h .few))) ∙ ap (flatMap fields) (h .configs)) in
     first-two v (omega (arith, h .sized))
     ∙ rw (h .count, h .flags, body, rest)
   where
@@ -125,14 +125,14 @@ module _ (S : Set) (few : length (S .configs) ≤ mostConfigs) where
   words-sized : length (setWords S) ≡ setWordsLength
   unfolding setWords
   words-sized =
-      omega (arith, length-append (allFields (S .configs)) zs, all-length (S .configs), length-blank (configWords * (mostConfigs - length (S .configs))))
+      omega (arith, length-append (flatMap fields (S .configs)) zs, all-length (S .configs), length-blank (configWords * (mostConfigs - length (S .configs))))
 
   words-unused : (j : ℕ) → firstConfig + configWords * length (S .configs) ≤ j → j < setWordsLength → getD (setWords S) j 0 ≡ 0
   unfolding setWords
   words-unused j h k =
       let m : ℕ = j - (firstConfig + configWords * length (S .configs)) in
-      let e : j ≡ suc (suc (length (allFields (S .configs)) + m)) = omega (arith, all-length (S .configs)) in
-      ap (λ (i : ℕ). getD (setWords S) i 0) e ∙ getD-append-add (allFields (S .configs)) zs m 0
+      let e : j ≡ suc (suc (length (flatMap fields (S .configs)) + m)) = omega (arith, all-length (S .configs)) in
+      ap (λ (i : ℕ). getD (setWords S) i 0) e ∙ getD-append-add (flatMap fields (S .configs)) zs m 0
       ∙ getD-blank (configWords * (mostConfigs - length (S .configs))) m (omega arith)
 
   words-configs : configsIn (setWords S) (length (S .configs)) ≡ S .configs
@@ -140,7 +140,7 @@ module _ (S : Set) (few : length (S .configs) ≤ mostConfigs) where
   words-configs =
       let n : ℕ = length (S .configs) in
       all-configs (configsIn (setWords S) n) (S .configs) (configs-length (setWords S) n)
-      (all-taken (setWords S) n (omega (arith, words-sized)) ∙ take-at (allFields (S .configs)) zs (configWords * n) (all-length (S .configs)))
+      (all-taken (setWords S) n (omega (arith, words-sized)) ∙ take-at (flatMap fields (S .configs)) zs (configWords * n) (all-length (S .configs)))
 
   pub words-held : HeldSet (setWords S) S
   unfolding setWords configCount flagWord

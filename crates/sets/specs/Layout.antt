@@ -4,7 +4,7 @@ use mathlib.Core.List.{List, [], _∷_}
 use Prim.Native.Nat.{ℕ, _+_, _*_, _/_, _%_}
 use lib.Dec.{eqb}
 use lib.ListN.{getD}
-use Rattle.sets.specs.Config.{Config}
+use Rattle.sets.specs.Config.{Config, config}
 
 abbrev pub mostConfigs : ℕ
 mostConfigs = 256
@@ -28,14 +28,7 @@ unfoldable pub field : List ℕ → ℕ → ℕ → ℕ
 field v i f = getD v (firstConfig + configWords * i + f) 0
 
 unfoldable pub configAt : List ℕ → ℕ → Config
-configAt v i = record {
-  state = field v i 0;
-  alternative = field v i 1;
-  context = field v i 2;
-  semantic = field v i 3;
-  reach = field v i 4;
-  provenance = field v i 5;
-}
+configAt v i = config (field v i 0) (field v i 1) (field v i 2) (field v i 3) (field v i 4) (field v i 5)
 
 unfoldable pub configCount : List ℕ → ℕ
 configCount v = getD v 0 0

@@ -8,7 +8,7 @@ use Rattle.words.specs.Provenance.{idOf, mergedMarks}
 use Rattle.arena.specs.Store.{Store, Found, at, nowhere}
 use Rattle.arena.specs.Place.{mergeS}
 use Rattle.encoding.specs.Decide.{sameWords}
-use Rattle.sets.specs.Config.{Config}
+use Rattle.sets.specs.Config.{Config, config}
 use Rattle.sets.specs.Lists.{any}
 
 -- the configs in order of insertion, and two flags of the set's own
@@ -47,14 +47,7 @@ held x (y ∷ ys) = elim (sameKey x y) [ true ↦ at (y .context) | false ↦ he
 
 -- y of the set, joined with x of the same key: "reach becomes the larger, bit 31 the OR of both"; c is the merged context
 unfoldable pub joined : Config → ℕ → Config → Config
-joined x c y = record {
-  state = y .state;
-  alternative = y .alternative;
-  context = c;
-  semantic = y .semantic;
-  reach = max (y .reach) (x .reach);
-  provenance = mergedMarks (y .provenance) (x .provenance);
-}
+joined x c y = config (y .state) (y .alternative) c (y .semantic) (max (y .reach) (x .reach)) (mergedMarks (y .provenance) (x .provenance))
 
 -- x joined to the config that has its key, every other config as before
 unfoldable pub joinedAll : Config → ℕ → List Config → List Config

@@ -1,5 +1,6 @@
 -- Set words are sound exactly when they are the words of a sound set, and of one only. Nothing here has to be believed.
 use mathlib.Core.Path.{_≡_, sym, ap, _∙_, subst}
+use mathlib.Core.Logic.{_↔_}
 use mathlib.Core.Bool.{true, false, not}
 use mathlib.Core.List.{List}
 use Prim.Native.Nat.{ℕ, _<_, _≤_, _/_, _%_}
@@ -14,7 +15,6 @@ use Rattle.cases.specs.Bools.{bool-iff, is-false, both-true, and-left, and-righ
 use Rattle.sets.specs.Layout.{mostConfigs, setWordsLength, configAt, configCount, flagWord, flag}
 use Rattle.sets.specs.Sets.{Set, hasSemantic, dips}
 use Rattle.sets.specs.Words.{flagsOf, setWords, configsIn, setOf, SoundSet, distinct, goodSet, soundSet}
-use Rattle.store.specs.Checks.{Exactly}
 use Rattle.sets.specs.Flags.{four, flags-are, four-of, four-below, four-second, four-third}
 use Rattle.sets.specs.Listed.{configs-length, any-at, at-any, all-at, at-all, distinct-at, at-distinct}
 use Rattle.sets.specs.Held.{HeldSet, held-words, words-held, held-set}
@@ -124,7 +124,7 @@ module _ (k : ℕ) (S : Set) (g : goodSet k S ≡ true) where
   set-of-words = held-set (setWords S) S (words-held S (good-few k S g))
 
 -- Words of the right length are sound exactly when they are the words of a sound set.
-pub set-exactly : (k : ℕ) (v : List ℕ) → length v ≡ setWordsLength → Exactly (SoundSet k v) ((S : Set) × (goodSet k S ≡ true) × (v ≡ setWords S))
+pub set-exactly : (k : ℕ) (v : List ℕ) → length v ≡ setWordsLength → SoundSet k v ↔ ((S : Set) × (goodSet k S ≡ true) × (v ≡ setWords S))
 set-exactly k v l = (
   λ s. (setOf v, sound-good k v s, sound-words k v s l),
   λ r. subst (SoundSet k) (sym (r .2)) (words-sound k (r .0) (r .1)),

@@ -1,7 +1,8 @@
 -- To believe: the words of a set, the set that words hold, and when words are sound.
 use mathlib.Core.Path.{_≡_}
+use mathlib.Core.Logic.{_↔_}
 use mathlib.Core.Bool.{Bool, true, false, not, _&&_}
-use mathlib.Core.List.{List, [], _∷_, _++_}
+use mathlib.Core.List.{List, [], _∷_, _++_, flatMap}
 use Prim.Native.Nat.{ℕ, zero, suc, _<_, _≤_, _+_, _*_, _-_}
 use lib.Dec.{ltb, leb}
 use lib.ListN.{length, getD}
@@ -10,7 +11,6 @@ use Rattle.encoding.specs.Decide.{sameWords}
 use Rattle.sets.specs.Config.{Config}
 use Rattle.sets.specs.Lists.{any, all}
 use Rattle.sets.specs.Layout.{mostConfigs, configWords, firstConfig, setWordsLength, fields, configAt, configCount, flagWord, flag}
-use Rattle.store.specs.Checks.{Exactly}
 use Rattle.sets.specs.Sets.{Set, hasSemantic, dips, key, sameKey}
 
 -- ---- from a set to words
@@ -23,13 +23,9 @@ bit false b = 0
 unfoldable pub flagsOf : Set → ℕ
 flagsOf S = bit (S .full) 1 + bit (hasSemantic (S .configs)) 2 + bit (dips (S .configs)) 4 + bit (S .closed) 8
 
-unfoldable pub allFields : List Config → List ℕ
-allFields [] = []
-allFields (x ∷ xs) = fields x ++ allFields xs
-
 -- count, flags, the words of each config, zeros
 unfoldable pub setWords : Set → List ℕ
-setWords S = length (S .configs) ∷ flagsOf S ∷ (allFields (S .configs) ++ blank (configWords * (mostConfigs - length (S .configs))))
+setWords S = length (S .configs) ∷ flagsOf S ∷ (flatMap fields (S .configs) ++ blank (configWords * (mostConfigs - length (S .configs))))
 
 -- ---- from words to a set
 
@@ -51,9 +47,9 @@ pub record SoundSet (k : ℕ) (v : List ℕ) : Type 0 where
   -- "no two equal keys"
   pub differ : (i j : ℕ) → i < j → j < configCount v → key (configAt v i) ≡ key (configAt v j) → ⊥
   -- "flag 2 exactly if some semantic id is not 0"
-  pub semantic : Exactly (flag 2 v ≡ true) ((i : ℕ) × (i < configCount v) × (configAt v i .semantic ≡ 0 → ⊥))
+  pub semantic : (flag 2 v ≡ true) ↔ ((i : ℕ) × (i < configCount v) × (configAt v i .semantic ≡ 0 → ⊥))
   -- "flag 4 exactly if some reach is above 0"
-  pub dipping : Exactly (flag 4 v ≡ true) ((i : ℕ) × (i < configCount v) × (0 < configAt v i .reach))
+  pub dipping : (flag 4 v ≡ true) ↔ ((i : ℕ) × (i < configCount v) × (0 < configAt v i .reach))
   -- "other flag bits and unused words 0"
   pub flags : flagWord v < 16
   pub unused : (j : ℕ) → firstConfig + configWords * configCount v ≤ j → j < setWordsLength → getD v j 0 ≡ 0

@@ -1,21 +1,20 @@
 -- What the checks leave to a call that only reads: a known context and a cleared scratch, or the refusal, whatever the reply would have been.
 -- Nothing here has to be believed.
-use mathlib.Core.Path.{_≡_, refl, sym, _∙_}
-use mathlib.Core.List.{List, [], _∷_}
-use Prim.Native.Nat.{ℕ, _<_, _≤_}
+use mathlib.Core.Path.{_≡_, sym, _∙_}
+use mathlib.Core.Logic.{_↔_}
+use mathlib.Core.List.{List}
+use Prim.Native.Nat.{ℕ, _<_}
 use native.Mathlib.Omega.{arith}
 use lib.ListN.{length, replicate}
 use Rattle.words.specs.declared.refusals.Refusal.{Refusal}
 use Rattle.words.specs.Refusals.{number}
+use Rattle.arena.specs.Store.{at}
 use Rattle.layout.specs.Layout.{storeWords, count}
 use Rattle.layout.specs.Sound.{SoundWords}
 use Rattle.store.specs.Nested.{asked-nested}
-use Rattle.store.specs.Checks.{Exactly, reason, DueBy}
-use Rattle.store.specs.Checks.Laws.{once, absent}
-use Rattle.store.specs.Calls.Laws.{refused-by, refused-keeps}
-use Rattle.store.specs.Reasons.{askReasons}
-use Rattle.store.specs.Reasons.Laws.{store-decides, known-decides}
-use Rattle.store.specs.Calls.{Reply, refused, leaves, zeros, kept, wrongLength, unsoundStore, unknownContext, asked, Keeps}
+use Rattle.store.specs.Checks.{due}
+use Rattle.store.specs.Calls.Laws.{refused-exactly, refused-leaves}
+use Rattle.store.specs.Calls.{Reply, refused, leaves, zeros, kept, refusal, askChecks, asked}
 use Rattle.store.specs.Admit.{Admits, cleared}
 use Rattle.store.specs.declared.inner.admit.Admitted.{Admitted}
 use Rattle.store.specs.declared.inner.admit.Admitted.the-variants.{Ready as ready, Refused}
@@ -58,13 +57,11 @@ module _ (w z : List ℕ) (c : ℕ) (u : List ℕ) (a : Admitted) (s : Admits w 
 
 -- ---- refused exactly when, and with nothing changed
 
-pub asked-refused-exactly : (w z : List ℕ) (c : ℕ) (r : Reply) → ((n : ℕ) → r ≡ refused n → ⊥) → (n : ℕ)
-    → Exactly (asked w z c r .reply ≡ refused n) (DueBy n (askReasons w z c))
-unfolding asked once absent
-asked-refused-exactly w z c r h n =
-    let cs = wrongLength w z ∷ unsoundStore w ∷ unknownContext w c ∷ [] in
-    refused-by w z cs (kept r w) h refl (askReasons w z c) (store-decides w z (unknownContext w c ∷ []) (reason 4 (count w ≤ c) ∷ []) (λ l s. known-decides w c [] [] (λ k. tt))) n
+module _ (w z : List ℕ) (c : ℕ) (r : Reply) (answers : (n : ℕ) → r ≡ refused n → ⊥) (n : ℕ) where
+  pub asked-refused-exactly : (asked w z c r .reply ≡ refused n) ↔ (due (askChecks w z c) ≡ at n)
+  unfolding asked
+  asked-refused-exactly = refused-exactly w z (askChecks w z c) (kept r w) answers n
 
-pub asked-refused-keeps : (w z : List ℕ) (c : ℕ) (r : Reply) → ((n : ℕ) → r ≡ refused n → ⊥) → (n : ℕ) → asked w z c r .reply ≡ refused n → Keeps w z n (asked w z c r)
-unfolding asked
-asked-refused-keeps w z c r h n = refused-keeps w z (wrongLength w z ∷ unsoundStore w ∷ unknownContext w c ∷ []) (kept r w) h n
+  pub asked-refused-leaves : asked w z c r .reply ≡ refused n → asked w z c r ≡ refusal w z n
+  unfolding asked
+  asked-refused-leaves = refused-leaves w z (askChecks w z c) (kept r w) answers n

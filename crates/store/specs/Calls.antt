@@ -69,8 +69,11 @@ abbrev pub made : ℕ × Store → Left
 made x = leaves (context (x .0)) (wordsOf (x .1)) zeros
 
 -- a call that only reads, on the context c: w is the store's words, z the scratch's, r the reply
+abbrev pub askChecks : List ℕ → List ℕ → ℕ → List Check
+askChecks w z c = wrongLength w z ∷ unsoundStore w ∷ unknownContext w c ∷ []
+
 unfoldable pub asked : List ℕ → List ℕ → ℕ → Reply → Left
-asked w z c r = unless (wrongLength w z ∷ unsoundStore w ∷ unknownContext w c ∷ []) (refusal w z) (kept r w)
+asked w z c r = unless (askChecks w z c) (refusal w z) (kept r w)
 
 -- a fresh store, over any earlier contents
 unfoldable pub freshCall : List ℕ → Reply × List ℕ
@@ -79,9 +82,3 @@ freshCall w = unless (given 2 (not (eqb (length w) storeWords)) ∷ []) (λ n. (
 -- the reply is a context's number, and these are the words after
 abbrev pub Accepts : Left → ℕ → List ℕ → Type 0
 Accepts x c w′ = (x .reply ≡ context c) × (x .store ≡ w′)
-
--- a refusal n of words w and z: "Store .. stay as on entry; scratch is 0 (untouched on 2)"
-pub record Keeps (w z : List ℕ) (n : ℕ) (x : Left) : Type 0 where
-  pub store : x .store ≡ w
-  pub untouched : n ≡ 2 → x .scratch ≡ z
-  pub cleared : (n ≡ 2 → ⊥) → x .scratch ≡ zeros

@@ -4,6 +4,7 @@ use mathlib.Core.Bool.{Bool, true, false}
 use mathlib.Core.List.{List, [], _∷_}
 use Prim.Native.Nat.{ℕ}
 use lib.Dec.{eqb}
+use Rattle.arena.specs.Store.{Found, at, nowhere}
 
 -- a refusal's number, and does its reason hold
 pub record Check : Type 0 where
@@ -30,22 +31,6 @@ inOrder (n ∷ ns) (c ∷ cs) = elim (eqb (c .number) n) [ true ↦ inOrder ns c
 
 -- ---- when a refusal is due
 
-abbrev pub Exactly : Type 0 → Type 0 → Type 0
-Exactly A B = (A → B) × (B → A)
-
--- a refusal's number, and its reason in words
-pub record Reason : Type 1 where
-  pub number : ℕ
-  pub because : Type 0
-
-abbrev pub reason : ℕ → Type 0 → Reason
-reason n P = record { number = n; because = P }
-
--- the reason for n holds, and none earlier in the list
-abbrev pub dueBy : Bool → Type 0 → Type 0 → Type 0
-dueBy true P later = P
-dueBy false P later = (P → ⊥) × later
-
-abbrev pub DueBy : ℕ → List Reason → Type 0
-DueBy n [] = ⊥
-DueBy n (r ∷ rs) = dueBy (eqb (r .number) n) (r .because) (DueBy n rs)
+-- the number of the first check whose reason holds
+abbrev pub due : List Check → Found
+due cs = unless cs at nowhere

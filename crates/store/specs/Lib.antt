@@ -1,5 +1,4 @@
 pub mod Checks
-pub mod Reasons
 pub mod Calls
 pub mod Nested
 pub mod Admit

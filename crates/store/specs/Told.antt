@@ -13,7 +13,7 @@ use Rattle.layout.specs.Encode.{wordsOf}
 use Rattle.encoding.specs.Good.Laws.{fresh-good}
 use Rattle.encoding.specs.Decide.{sound}
 use Rattle.encoding.specs.Decide.Laws.{words-sound}
-use Rattle.cases.specs.Numbers.{never}
+use Rattle.cases.specs.Numbers.{two, never}
 use Rattle.layout.specs.Layout.{storeWords}
 use Rattle.store.specs.FreshWords.{fresh-words, fresh-refused}
 use Rattle.store.specs.Calls.{Reply, refused, done, freshCall}
@@ -63,15 +63,18 @@ fresh-determined w a b u v p q =
 pub fresh-sound : sound (wordsOf (dollar ∷ [])) ≡ true
 fresh-sound = words-sound (dollar ∷ []) fresh-good
 
--- 2 exactly when the length is wrong, and then every word as it was
-pub fresh-refused-exactly : (w : List ℕ) → (freshCall w .0 ≡ refused 2) ↔ (length w ≡ storeWords → ⊥)
-fresh-refused-exactly w = (
-  λ e l. never-both (ap (λ (x : Reply × List ℕ). x .0) (fresh-words w l) ∙ e),
-  λ n. sym (ap (λ (x : Reply × List ℕ). x .0) (fresh-refused w n)),
-)
+-- 2 exactly when the length is wrong, no other number, and then every word as it was
+pub fresh-refused-exactly : (w : List ℕ) (n : ℕ) → (freshCall w .0 ≡ refused n) ↔ ((n ≡ 2) × (length w ≡ storeWords → ⊥))
+fresh-refused-exactly w n =
+    two (length w) storeWords
+    (λ e. (λ q. absurd (never-both (ap (λ (x : Reply × List ℕ). x .0) (fresh-words w e) ∙ q)), λ r. absurd (r .1 e)))
+    (λ d. let f = ap (λ (x : Reply × List ℕ). x .0) (fresh-refused w d) in (λ q. (number-is (f ∙ q), d), λ r. sym f ∙ ap refused (sym (r .0))))
   where
-    never-both : done ≡ refused 2 → ⊥
+    never-both : done ≡ refused n → ⊥
     never-both e = never (cc)
 
-pub fresh-refused-keeps : (w : List ℕ) → (length w ≡ storeWords → ⊥) → freshCall w .1 ≡ w
-fresh-refused-keeps w n = sym (ap (λ (x : Reply × List ℕ). x .1) (fresh-refused w n))
+    number-is : refused 2 ≡ refused n → n ≡ 2
+    number-is e = cc
+
+pub fresh-refused-leaves : (w : List ℕ) → (length w ≡ storeWords → ⊥) → freshCall w ≡ (refused 2, w)
+fresh-refused-leaves w n = sym (fresh-refused w n)

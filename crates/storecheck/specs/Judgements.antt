@@ -13,12 +13,13 @@ use Rattle.words.specs.Lent.Laws.{allZero-at, allZero-of}
 use Rattle.arena.specs.Store.{dollar, find}
 use Rattle.arena.specs.Soundness.{Sound}
 use Rattle.arena.specs.Trees.{nodes-differ}
+use Rattle.arena.specs.Room.{pool}
 use Rattle.layout.specs.Layout.{storeWords, scratchWords, count, used, kind, first, second, parent, state}
-use Rattle.layout.specs.Listing.Laws.{listing-agree}
 use Rattle.layout.specs.Decode.{nodeIn, storeIn, storeOf}
-use Rattle.layout.specs.Decode.Laws.{store-length, store-node, node-zero, node-one, node-many}
-use Rattle.layout.specs.Sound.{lengths, Parent, ofSingleton, ofEntry, SameSingletons, SameArrays, SoundWords}
-use Rattle.encoding.specs.Reads.{lengths-zero, single-reads, array-entries, array-fits, kind?}
+use Rattle.layout.specs.Decode.Laws.{store-length, store-node, node-zero}
+use Rattle.layout.specs.Sound.{Parent, ofSingleton, ofEntry, SoundWords}
+use Rattle.encoding.specs.Reads.{lengths, lengths-zero, single-reads, array-entries, array-fits, kind?, Sized, zeroth, several, lengths-pool-of, first-lengths}
+use Rattle.encoding.specs.Reads.{single as one}
 use Rattle.encoding.specs.Decoded.{store-sound}
 use Rattle.index.specs.Hash.{nodeHash}
 use Rattle.index.specs.Writes.{putIndex}
@@ -60,7 +61,7 @@ sound-record w v c a h =
     kind? w v c h
     (λ k. absurd (omega (arith, Rattle.encoding.specs.Reads.kind-zero w v c h k)))
     (λ k. let r = single-reads w v c h k in single k (r .0) (r .1) (new .2))
-    (λ k. array k (v .long c h k) (v .filled c h k) (omega (arith, array-fits w v c h k, v .counted .2)) (array-entries w v c h k) (new .2))
+    (λ k. array k (v .long c h k) (first-lengths w v c h k) (omega (arith, array-fits w v c h k, v .counted .2)) (array-entries w v c h k) (new .2))
 
 -- ---- the judgements give soundness
 
@@ -79,18 +80,25 @@ module _ (w z : List ℕ) (q : ℕ) (lw : length w ≡ storeWords) (counts : (1 
   older c x h (ofSingleton k) = single-good c h k .older
   older c x h (ofEntry k j l) = array-good c h k .entries .older (first w c + j) (omega arith) (omega arith)
 
-  same-nodes : (c d : ℕ) → SameSingletons w c d ⊎ SameArrays w c d → nodeIn w c ≡ nodeIn w d
-  same-nodes c d (inl s) = node-one w c (s .kinds .0) ∙ (rw (s .parents, s .states)) ∙ sym (node-one w d (s .kinds .1))
-  same-nodes c d (inr s) =
-      node-many w c (s .kinds .0) ∙
-      listing-agree (state w) (parent w) (state w) (parent w) (first w c) (first w d) (second w c) (λ j h. (s .states j h, s .parents j h)) ∙
-      (rw (s .lengths)) ∙ sym (node-many w d (s .kinds .1))
-
-  differ : (c d : ℕ) → c < d → d < count w → SameSingletons w c d ⊎ SameArrays w c d → ⊥
+  differ : (c d : ℕ) → c < d → d < count w → nodeIn w c ≡ nodeIn w d → ⊥
   differ c d l h s =
       let e : c ≡ d = nodes-differ (storeOf w) (p .records .sound) c d (omega (arith, store-length w (count w))) (omega (arith, store-length w (count w)))
-      (store-node w (count w) c (omega arith) ∙ same-nodes c d s ∙ sym (store-node w (count w) d h)) in
+      (store-node w (count w) c (omega arith) ∙ s ∙ sym (store-node w (count w) d h)) in
       omega arith
+
+  one-or-two : (c : ℕ) → c < count w → GoodRecord w c → (kind w c ≡ 1) ⊎ (kind w c ≡ 2)
+  one-or-two c h (single e a b f) = inl e
+  one-or-two c h (array e a b d v f) = inr e
+
+  sized : (c : ℕ) → c < count w → Sized w c
+  sized c h = two c 0 (λ z. zeroth (rw z (r .0))) (λ n. go (p .good c (omega arith) h))
+    where
+      go : GoodRecord w c → Sized w c
+      go (single e a b f) = one e
+      go (array e a b d v f) = several e a v
+
+  in-pool : (c : ℕ) → c ≤ count w → lengths w c ≡ pool (storeIn w c)
+  in-pool c h = lengths-pool-of w c (λ d l. sized d (omega arith))
 
   pub sound-words : SoundWords w
   sound-words = record {
@@ -105,17 +113,13 @@ module _ (w z : List ℕ) (q : ℕ) (lw : length w ≡ storeWords) (counts : (1 
         rw e at (array-good c h k .entries .rise (first w c + j) (omega arith) (omega arith));
     dollar = λ c j h k l. array-good c h k .entries .dollar (first w c + j) (omega arith) (omega arith);
     fit = λ c j h k l. array-good c h k .entries .fit (first w c + j) (omega arith) (omega arith);
-    filled = λ c h k. array-good c h k .filled;
-    allUsed = sym full ∙ p .filled;
+    filled = λ c h k. array-good c h k .filled ∙ in-pool c (omega arith);
+    allUsed = sym full ∙ p .filled ∙ in-pool (count w) (omega arith);
     differ = differ;
     unusedRecords = u .records;
     unusedParents = u .parents;
     unusedStates = u .states;
   }
-    where
-      one-or-two : (c : ℕ) → c < count w → GoodRecord w c → (kind w c ≡ 1) ⊎ (kind w c ≡ 2)
-      one-or-two c h (single e a b f) = inl e
-      one-or-two c h (array e a b d v f) = inr e
 
   pub ready : Ready w z
   ready = record { sized = lw; sound = sound-words; records = p .records; index = p .index }

@@ -42,9 +42,13 @@ verdictLeft r z o = record { reply = r; scratch = z; output = o }
 unfoldable pub readRefusal : List ℕ → List ℕ → ℕ → VerdictLeft
 readRefusal z o n = elim (eqb n 2) [ true ↦ verdictLeft (refused n) z o | false ↦ verdictLeft (refused n) zeros o ]
 
--- checks 2, with n words of output, 1 and 3, then those in `more`; then the reply r and the output p
+-- checks 2, with n words of output, 1 and 3, then those in `more`
+abbrev pub readChecks : ℕ → List Check → List ℕ → List ℕ → List ℕ → List ℕ → List Check
+readChecks n more w v z o = lentChecks (lentLengths w v z && eqb (length o) n) w v more
+
+-- then the reply r and the output p
 unfoldable pub readCall : ℕ → List Check → List ℕ → List ℕ → List ℕ → List ℕ → VerdictReply → List ℕ → VerdictLeft
-readCall n more w v z o r p = unless (lentChecks (lentLengths w v z && eqb (length o) n) w v more) (readRefusal z o) (verdictLeft r zeros p)
+readCall n more w v z o r p = unless (readChecks n more w v z o) (readRefusal z o) (verdictLeft r zeros p)
 
 -- ---- the calls
 
@@ -70,5 +74,8 @@ abbrev pub mostStops : ℕ
 mostStops = 64
 
 -- 10: more than 64 stop states
+abbrev pub tooManyStops : List ℕ → List Check
+tooManyStops stops = given 10 (ltb mostStops (length stops)) ∷ []
+
 unfoldable pub verdictCall : List ℕ → List ℕ → List ℕ → List ℕ → VerdictLeft
-verdictCall w v z stops = readCall 0 (given 10 (ltb mostStops (length stops)) ∷ []) w v z [] (says (verdict stops (setOf v .configs))) []
+verdictCall w v z stops = readCall 0 (tooManyStops stops) w v z [] (says (verdict stops (setOf v .configs))) []

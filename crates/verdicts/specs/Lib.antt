@@ -1,7 +1,6 @@
--- The calls on a set's subsets. To believe: Calls, Replies, Reasons. To read beside document 01: Sentences, Refused, Determined.
+-- The calls on a set's subsets. To believe: Calls, Replies. To read beside document 01: Sentences, Refused, Determined.
 pub mod Calls
 pub mod Replies
-pub mod Reasons
 pub mod Refused
 pub mod Determined
 pub mod Opened

@@ -6,7 +6,7 @@ use Prim.Native.Nat.{ℕ, zero, suc, _+_}
 use lib.ListN.{length, replicate}
 use Rattle.arena.specs.Store.{Node, end, dollar, push, Store, nodeAt, same, find}
 use Rattle.arena.specs.Place.{intern, listed}
-use Rattle.arena.specs.Kinds.{kindOf, size}
+use Rattle.arena.specs.Kinds.{size}
 use Rattle.arena.specs.Room.{room, pool}
 use Rattle.encoding.specs.Decide.{fits}
 use Rattle.work.specs.Counted.{Result, State, standing, Outcome, done, refused, andThen, recall, keep, completed, interned}
@@ -24,7 +24,7 @@ tell (refused n) = no n
 
 -- a merge from a state
 from : State → Bool → ℕ → ℕ → Told
-unfolding tell counted deep step begins recall made walk before andThen interned keep completed intern listed find same nodeAt kindOf size room pool fits
+unfolding tell counted deep step begins recall made walk before andThen interned keep completed intern listed find same nodeAt size room pool fits
 from t m a b = tell (counted m t a b)
 
 -- ---- a chain: 1 is 5 over 0, 2 is 6 over 0, 3 is 7 over 1, 4 is 7 over 2

@@ -1,4 +1,4 @@
--- Lists of entries by their size: which context, and which kind, each is interned as. Nothing here has to be believed.
+-- Lists of entries by their size: which context each is interned as, and which have entries in the pool. Nothing here has to be believed.
 use mathlib.Core.Path.{_≡_, refl}
 use Prim.Native.Nat.{_<_, _≤_}
 use native.Mathlib.Omega.{arith}
@@ -8,7 +8,8 @@ use Rattle.arena.specs.Soundness.{Rise, Full, Sound}
 use Rattle.arena.specs.Trees.{node-sound}
 use Rattle.arena.specs.Place.{listed, intern}
 use Rattle.arena.specs.Placed.{intern-self}
-use Rattle.arena.specs.Kinds.{singleton, array, kindOf, size}
+use Rattle.arena.specs.Kinds.{size}
+use Rattle.arena.specs.Room.{room}
 
 -- ---- no entries, or `$` alone: context 0
 
@@ -28,20 +29,12 @@ module _ (s : Store) (w : Sound s) (h : 0 < length s) where
   unfolding intern listed
   intern-end = intern-dollar
 
--- ---- one other entry: a singleton; two or more: an array
+-- ---- two or more: an array, whose entries are all in the pool
 
-pub kind-one : (n : Node) → size n ≡ 1 → (n ≡ dollar → ⊥) → kindOf n ≡ singleton
-unfolding size kindOf
-kind-one end e k = absurd (omega arith)
-kind-one dollar e k = absurd (k refl)
-kind-one (push r p end) e k = refl
-kind-one (push r p dollar) e k = absurd (omega arith)
-kind-one (push r p (push q o n)) e k = absurd (omega arith)
-
-pub kind-many : (n : Node) → 2 ≤ size n → kindOf n ≡ array
-unfolding size kindOf
-kind-many end h = absurd (omega arith)
-kind-many dollar h = absurd (omega arith)
-kind-many (push r p end) h = absurd (omega arith)
-kind-many (push r p dollar) h = refl
-kind-many (push r p (push q o n)) h = refl
+pub room-many : (n : Node) → 2 ≤ size n → room n ≡ size n
+unfolding size room
+room-many end h = absurd (omega arith)
+room-many dollar h = absurd (omega arith)
+room-many (push r p end) h = absurd (omega arith)
+room-many (push r p dollar) h = refl
+room-many (push r p (push q o n)) h = refl

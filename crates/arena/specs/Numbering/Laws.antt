@@ -1,7 +1,7 @@
 -- The numbering rule holds of every set that is placed. Nothing here has to be believed.
 use mathlib.Core.Path.{_≡_, refl, sym, ap, _∙_}
-use mathlib.Core.Bool.{Bool, true, false, false≢true}
-use mathlib.Core.List.{List, [], _∷_, _++_}
+use mathlib.Core.Bool.{Bool, true, false, _&&_, false≢true}
+use mathlib.Core.List.{List, [], _∷_, _++_, List·Memᴰ, List·Memᴰ·head, List·Memᴰ·tail, List·Memᴰ·not-nil}
 use Prim.Native.Nat.{ℕ, suc, _<_}
 use native.Mathlib.Omega.{arith}
 use lib.Dec.{eqb}
@@ -17,7 +17,7 @@ use Rattle.cases.specs.Bools.{and-left, and-right, bool?}
 use Rattle.arena.specs.Trees.{find?, find-at, find-none, node-rise, tree-new, tree-old, tree-node, tree-canon, tree-inj, treeOf-inj}
 use Rattle.arena.specs.Place.{intern, placeE, place, mergeS}
 use Rattle.arena.specs.Placed.{HoldsE, intern-found, intern-made, intern-holds, placeE-holds, full-of}
-use Rattle.arena.specs.Numbering.{inner, parts, alike, among, sets, joined, allJoined, setAt}
+use Rattle.arena.specs.Numbering.{inner, parts, sets, Joins, done, there, next, setAt}
 
 pub sets-length : (s : Store) → length (sets s) ≡ length s
 unfolding sets
@@ -33,7 +33,32 @@ sets-at (n ∷ s) c h =
     (λ d. rw (sets-length s, eq-eqb c (length s) d, setAt) (sym (tree-new n s c d)))
     (λ d. rw (sets-length s, ne-eqb c (length s) d, setAt) (sets-at s c (omega arith) ∙ sym (tree-old n s c (omega arith))))
 
--- ---- equal sets
+-- ---- the same as a function
+
+-- equal sets
+unfoldable alike : Forest → Forest → Bool
+alike none none = true
+alike none mark = false
+alike none (over s c u) = false
+alike mark none = false
+alike mark mark = true
+alike mark (over s c u) = false
+alike (over r b t) none = false
+alike (over r b t) mark = false
+alike (over r b t) (over s c u) = eqb r s && (alike b c && alike t u)
+
+unfoldable among : Forest → List Forest → Bool
+among F [] = false
+among F (G ∷ Gs) = elim (alike F G) [ true ↦ true | false ↦ among F Gs ]
+
+-- a set takes the next number unless a context stands for it
+unfoldable joined : List Forest → Forest → List Forest
+joined known F = elim (among F known) [ true ↦ known | false ↦ F ∷ known ]
+
+-- and so do several, one after the other
+unfoldable allJoined : List Forest → List Forest → List Forest
+allJoined known [] = known
+allJoined known (F ∷ Fs) = allJoined (joined known F) Fs
 
 alike-self : (F : Forest) → alike F F ≡ true
 unfolding alike
@@ -56,6 +81,34 @@ alike-true (over r b t) (over s c u) e =
     let beneath : b ≡ c = alike-true b c (and-left _ _ (and-right (eqb r s) _ e)) in
     let rests : t ≡ u = alike-true t u (and-right (alike b c) _ (and-right (eqb r s) _ e)) in
     cc
+
+-- a set is among others exactly if it is one of them
+among-in : (F : Forest) (known : List Forest) → among F known ≡ true → List·Memᴰ F known
+unfolding among
+among-in F [] e = absurd (false≢true e)
+among-in F (G ∷ known) e = bool? (alike F G) (λ q. List·Memᴰ·head (alike-true F G q)) (λ q. List·Memᴰ·tail (among-in F known (rw (q, among) at e)))
+
+in-among : (F : Forest) (known : List Forest) → List·Memᴰ F known → among F known ≡ true
+unfolding among
+in-among F [] m = absurd (List·Memᴰ·not-nil m)
+in-among F (G ∷ known) (List·Memᴰ·head e) = rw (← e, alike-self F, among)
+in-among F (G ∷ known) (List·Memᴰ·tail m) = bool? (alike F G) (λ q. rw (q, among)) (λ q. rw (q, among) (in-among F known m))
+
+all-joins : (known Fs : List Forest) → Joins known Fs (allJoined known Fs)
+unfolding allJoined joined
+all-joins known [] = done
+all-joins known (F ∷ Fs) =
+    bool? (among F known)
+    (λ q. there (among-in F known q) (rw (q, joined) (all-joins known Fs)))
+    (λ q. next (λ m. false≢true (sym q ∙ in-among F known m)) (rw (q, joined) (all-joins (F ∷ known) Fs)))
+
+-- the rule leaves no choice
+pub joins-determined : {known Fs a b : List Forest} → Joins known Fs a → Joins known Fs b → a ≡ b
+joins-determined done done = refl
+joins-determined (there m p) (there k q) = joins-determined p q
+joins-determined (there m p) (next n q) = absurd (n m)
+joins-determined (next n p) (there m q) = absurd (n m)
+joins-determined (next n p) (next k q) = joins-determined p q
 
 -- a set is among those of a store exactly if a context stands for it
 among-of : (s : Store) (c : ℕ) (F : Forest) → c < length s → tree s c ≡ F → among F (sets s) ≡ true
@@ -113,17 +166,19 @@ placeE-numbered lo s (over r b t) w v =
     rest ∙ rw (beneath, all-append (sets s) (inner b) (b ∷ inner t), allJoined)
 
 -- The numbering rule, of any set that is placed: its parts, in the order in which they are complete, take the next numbers.
-pub place-numbers : (s : Store) (F : Forest) → Sound s → Canon F → Some F → sets (place s F .1) ≡ allJoined (sets s) (parts F)
+pub place-numbers : (s : Store) (F : Forest) → Sound s → Canon F → Some F → Joins (sets s) (parts F) (sets (place s F .1))
 unfolding place parts allJoined
 place-numbers s F w v h =
     let B = placeE s F in
+    let e : sets (place s F .1) ≡ allJoined (sets s) (parts F) =
     intern-numbered (B .1) (B .0) F (placeE-holds 0 s F w v) h ∙
     ap (λ (k : List Forest). joined k F) (placeE-numbered 0 s F w v) ∙
-    sym (all-append (sets s) (inner F) (F ∷ []))
+    sym (all-append (sets s) (inner F) (F ∷ [])) in
+    rw e (all-joins (sets s) (parts F))
 
 -- The numbering rule, of a merge of either mode.
 pub merge-numbers : (m : Bool) (s : Store) → Sound s → (a b : ℕ) → a < length s → b < length s
-    → sets (mergeS m s a b .1) ≡ allJoined (sets s) (parts (mergeT m (tree s a) (tree s b)))
+    → Joins (sets s) (parts (mergeT m (tree s a) (tree s b))) (sets (mergeS m s a b .1))
 unfolding mergeS
 merge-numbers m s w a b h k =
     let u = tree-canon s w a h in

@@ -5,7 +5,6 @@ use native.Mathlib.Omega.{arith}
 use lib.ListN.{length}
 use Rattle.arena.specs.Store.{Node, dollar, Store, nowhere, find}
 use Rattle.arena.specs.Soundness.{Rise, Full}
-use Rattle.arena.specs.Kinds.{kindOf}
 use Rattle.arena.specs.Room.{room, pool}
 use Rattle.arena.specs.Below.{NodeBelow}
 use Rattle.layout.specs.Layout.{stop}
@@ -15,7 +14,7 @@ use Rattle.encoding.specs.Good.{GoodStore}
 
 -- context 0 alone
 pub fresh-good : GoodStore (dollar ∷ [])
-unfolding find pool room kindOf
+unfolding find pool room
 fresh-good = record { sound = (tt, tt, refl, tt); below = (tt, tt); some = omega arith; fits = omega arith }
 
 -- a new record whose states rise from 0 on over known parents, if there is room for it

@@ -12,11 +12,7 @@ use Rattle.answers.specs.Answers.{numberOf}
 
 -- a struct for the reply x beside the words that the call left
 pub door : {A : Type 0} (of : Reply → A) (a : A) (x : Reply) (w z : List ℕ) (l : Left) → a ≡ of x → leaves x w z ≡ l → Opens of l a w z
-door of a x w z l h e = record {
-  answer = h ∙ ap (λ (o : Left). of (o .reply)) e;
-  store = ap (λ (o : Left). o .store) e;
-  scratch = ap (λ (o : Left). o .scratch) e;
-}
+door of a x w z l h e = (h ∙ ap (λ (o : Left). of (o .reply)) e, ap (λ (o : Left). o .store) e, ap (λ (o : Left). o .scratch) e)
 
 -- the same of a fresh store, where the number alone comes back
 pub fresh-door : (n : ℕ) (x : Reply) (v w : List ℕ) → n ≡ numberOf x → (x, v) ≡ freshCall w → (n ≡ numberOf (freshCall w .0)) × (v ≡ freshCall w .1)
@@ -24,17 +20,13 @@ fresh-door n x v w h e = (h ∙ ap (λ (o : Reply × List ℕ). numberOf (o .0))
 
 -- two outcomes of a door that satisfy its contract for the same input are equal: every field of the struct and every word
 pub door-determined : {A : Type 0} (of : Reply → A) (x : Left) (a b : A) (w z v y : List ℕ) → Opens of x a w z → Opens of x b v y → (a ≡ b) × (w ≡ v) × (z ≡ y)
-door-determined of x a b w z v y p q = (p .answer ∙ sym (q .answer), p .store ∙ sym (q .store), p .scratch ∙ sym (q .scratch))
+door-determined of x a b w z v y p q = (p .0 ∙ sym (q .0), p .1 ∙ sym (q .1), p .2 ∙ sym (q .2))
 
 -- ---- the same of a call on a set
 
 pub set-door : {A : Type 0} (of : SetReply → A) (a : A) (x : SetReply) (w v z : List ℕ) (l : SetLeft) → a ≡ of x → setLeft x w v z ≡ l → OpensSet of l a w v z
-set-door of a x w v z l h e = record {
-  answer = h ∙ ap (λ (o : SetLeft). of (o .reply)) e;
-  store = ap (λ (o : SetLeft). o .store) e;
-  set = ap (λ (o : SetLeft). o .set) e;
-  scratch = ap (λ (o : SetLeft). o .scratch) e;
-}
+set-door of a x w v z l h e =
+    (h ∙ ap (λ (o : SetLeft). of (o .reply)) e, ap (λ (o : SetLeft). o .store) e, ap (λ (o : SetLeft). o .set) e, ap (λ (o : SetLeft). o .scratch) e)
 
 pub fresh-set-door : (n : ℕ) (x : SetReply) (u v : List ℕ) (f : Bool) → n ≡ setNumberOf x → (x, u) ≡ freshSetCall v f
     → (n ≡ setNumberOf (freshSetCall v f .0)) × (u ≡ freshSetCall v f .1)
@@ -43,17 +35,13 @@ fresh-set-door n x u v f h e = (h ∙ ap (λ (o : SetReply × List ℕ). setNumb
 pub set-door-determined : {A : Type 0} (of : SetReply → A) (x : SetLeft) (a b : A) (w v z u t y : List ℕ) → OpensSet of x a w v z → OpensSet of x b u t y
     → (a ≡ b) × (w ≡ u) × (v ≡ t) × (z ≡ y)
 set-door-determined of x a b w v z u t y p q =
-    (p .answer ∙ sym (q .answer), p .store ∙ sym (q .store), p .set ∙ sym (q .set), p .scratch ∙ sym (q .scratch))
+    (p .0 ∙ sym (q .0), p .1 ∙ sym (q .1), p .2 ∙ sym (q .2), p .3 ∙ sym (q .3))
 
 -- ---- the same of a call on a set's subsets
 
 pub verdict-door : {A : Type 0} (of : VerdictReply → A) (a : A) (x : VerdictReply) (z o : List ℕ) (l : VerdictLeft) → a ≡ of x → verdictLeft x z o ≡ l → OpensVerdict of l a z o
-verdict-door of a x z o l h e = record {
-  answer = h ∙ ap (λ (y : VerdictLeft). of (y .reply)) e;
-  scratch = ap (λ (y : VerdictLeft). y .scratch) e;
-  output = ap (λ (y : VerdictLeft). y .output) e;
-}
+verdict-door of a x z o l h e = (h ∙ ap (λ (y : VerdictLeft). of (y .reply)) e, ap (λ (y : VerdictLeft). y .scratch) e, ap (λ (y : VerdictLeft). y .output) e)
 
 pub verdict-door-determined : {A : Type 0} (of : VerdictReply → A) (x : VerdictLeft) (a b : A) (z o y p : List ℕ) → OpensVerdict of x a z o → OpensVerdict of x b y p
     → (a ≡ b) × (z ≡ y) × (o ≡ p)
-verdict-door-determined of x a b z o y p f g = (f .answer ∙ sym (g .answer), f .scratch ∙ sym (g .scratch), f .output ∙ sym (g .output))
+verdict-door-determined of x a b z o y p f g = (f .0 ∙ sym (g .0), f .1 ∙ sym (g .1), f .2 ∙ sym (g .2))

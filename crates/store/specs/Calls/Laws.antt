@@ -3,22 +3,22 @@
 use mathlib.Core.Path.{_≡_, refl, sym, ap, _∙_}
 use mathlib.Core.Logic.{_↔_}
 use mathlib.Core.Bool.{Bool, true, false, not, _&&_}
-use mathlib.Core.List.{List, [], _∷_, append-nil}
+use mathlib.Core.List.{List, [], _∷_}
 use Prim.Native.Nat.{ℕ, _<_}
 use lib.Dec.{eqb, ltb}
 use lib.ListN.{length}
 use borrow.Author.Tests.{eq-eqb, ne-eqb, eqb-true, eqb-false, ltb-true}
 use Rattle.cases.specs.Bools.{bool?, and-left, and-right}
 use Rattle.cases.specs.Numbers.{two, never}
-use Rattle.arena.specs.Store.{Store}
+use Rattle.arena.specs.Store.{Store, at}
 use Rattle.layout.specs.Layout.{storeWords, scratchWords, count as contexts}
 use Rattle.layout.specs.Encode.{wordsOf}
 use Rattle.layout.specs.Ceilings.{Fits}
 use Rattle.encoding.specs.Decide.{sound, fits}
 use Rattle.encoding.specs.Decide.Laws.{fits-true}
-use Rattle.store.specs.Checks.{Check, unless, Exactly, Reason, DueBy}
-use Rattle.store.specs.Checks.Laws.{Due, Clear, absent, once, unless-first, unless-next, due-given, given-due, clear-of, by-unless, Decides, decides-due}
-use Rattle.store.specs.Calls.{refused, context, Left, zeros, refusal, wrongLength, unsoundStore, unknownContext, noRoom, made, Accepts, Keeps}
+use Rattle.store.specs.Checks.{Check, unless, due}
+use Rattle.store.specs.Checks.Laws.{Clear, absent, unless-first, unless-next, due-leaves, refused-due, clear-of}
+use Rattle.store.specs.Calls.{refused, context, Left, zeros, refusal, wrongLength, unsoundStore, unknownContext, noRoom, made, Accepts}
 
 -- ---- two outcomes that satisfy one contract are equal
 
@@ -52,31 +52,16 @@ not-context n c e = never (cc)
 -- ---- a call whose answer, where it is not refused, is no refusal
 
 module _ (w z : List ℕ) (cs : List Check) (go : Left) (answers : (n : ℕ) → go .reply ≡ refused n → ⊥) where
-  -- the number n is given exactly when its reason holds and none earlier in the table
-  pub refused-exactly : once cs ≡ true → (n : ℕ) → (unless cs (refusal w z) go .reply ≡ refused n) ↔ Due n cs
-  refused-exactly o n = (
-    λ e. given-due (refusal w z) go (λ k x. x .reply ≡ refused k) (λ k m g. same-number k m (sym (refusal-reply w z m) ∙ g)) answers n cs o e,
-    λ d. ap (λ (x : Left). x .reply) (sym (ap (λ (l : List Check). unless l (refusal w z) go) (append-nil cs)) ∙ due-given (refusal w z) go n cs [] d) ∙ refusal-reply w z n,
+  -- the number n is given exactly when it is due: its reason holds and none earlier in the table
+  pub refused-exactly : (n : ℕ) → (unless cs (refusal w z) go .reply ≡ refused n) ↔ (due cs ≡ at n)
+  refused-exactly n = (
+    refused-due (refusal w z) go (λ k x. x .reply ≡ refused k) (λ k m g. same-number k m (sym (refusal-reply w z m) ∙ g)) answers n cs,
+    λ d. ap (λ (x : Left). x .reply) (due-leaves (refusal w z) go n cs d) ∙ refusal-reply w z n,
   )
 
-  -- the same in document 01's words, where the checks decide these reasons
-  pub refused-by : once cs ≡ true → (rs : List Reason) → Decides cs rs → (n : ℕ) → Exactly (unless cs (refusal w z) go .reply ≡ refused n) (DueBy n rs)
-  refused-by o rs d n =
-      let e = refused-exactly o n in
-      let f = decides-due n cs rs d in
-      (λ q. f .0 (e .0 q), λ q. e .1 (f .1 q))
-
   -- and changes nothing
-  pub refused-keeps : (n : ℕ) → unless cs (refusal w z) go .reply ≡ refused n → Keeps w z n (unless cs (refusal w z) go)
-  refused-keeps n e = by-unless (refusal w z) go (λ x. x .reply ≡ refused n → Keeps w z n x) by-refusal (λ h. absurd (answers n h)) cs e
-    where
-      by-refusal : (m : ℕ) → refusal w z m .reply ≡ refused n → Keeps w z n (refusal w z m)
-      by-refusal m g =
-          let q : m ≡ n = same-number n m (sym (refusal-reply w z m) ∙ g) in record {
-            store = refusal-store w z m;
-            untouched = λ k. refusal-scratch w z m .0 (q ∙ k);
-            cleared = λ k. refusal-scratch w z m .1 (λ j. k (sym q ∙ j));
-          }
+  pub refused-leaves : (n : ℕ) → unless cs (refusal w z) go .reply ≡ refused n → unless cs (refusal w z) go ≡ refusal w z n
+  refused-leaves n e = due-leaves (refusal w z) go n cs (refused-exactly n .0 e)
 
 -- ---- "Scratch: .. all 0 on return": over slices of the right lengths, refused or not
 

@@ -4,9 +4,11 @@ use mathlib.Core.Bool.{Bool, true, false, not, _&&_}
 use mathlib.Core.List.{List, [], _∷_, _++_}
 use Prim.Native.Nat.{ℕ}
 use lib.Dec.{eqb}
-use borrow.Author.Tests.{eq-eqb, ne-eqb, eqb-true, eqb-false, not-true}
-use Rattle.cases.specs.Bools.{bool?, is-false, and-left, and-right}
-use Rattle.store.specs.Checks.{Check, unless, Exactly, Reason, dueBy, DueBy}
+use borrow.Author.Tests.{eqb-true}
+use Rattle.cases.specs.Bools.{bool?}
+use Rattle.cases.specs.Numbers.{never}
+use Rattle.arena.specs.Store.{at, nowhere}
+use Rattle.store.specs.Checks.{Check, unless, due}
 
 -- the reason for n holds, and none earlier in the list
 abbrev pub dueIf : Bool → Bool → Type 0 → Type 0
@@ -27,11 +29,6 @@ unfoldable pub absent : ℕ → List Check → Bool
 absent n [] = true
 absent n (c ∷ cs) = not (eqb (c .number) n) && absent n cs
 
--- each number stands once
-unfoldable pub once : List Check → Bool
-once [] = true
-once (c ∷ cs) = absent (c .number) cs && once cs
-
 module _ (n : ℕ) (c : Check) (cs : List Check) where
   here : eqb (c .number) n ≡ true → Due n (c ∷ cs) → c .holds ≡ true
   here e d = subst (λ (b : Bool). dueIf b (c .holds) (Due n cs)) e d
@@ -39,13 +36,11 @@ module _ (n : ℕ) (c : Check) (cs : List Check) where
   later : eqb (c .number) n ≡ false → Due n (c ∷ cs) → (c .holds ≡ false) × Due n cs
   later e d = subst (λ (b : Bool). dueIf b (c .holds) (Due n cs)) e d
 
--- a refusal that is due is listed
-due-listed : (n m : ℕ) (cs : List Check) → absent m cs ≡ true → Due n cs → eqb m n ≡ false
-unfolding absent
-due-listed n m (c ∷ cs) a d =
-    bool? (eqb (c .number) n)
-    (λ e. ne-eqb m n (λ q. eqb-false (c .number) m (not-true _ (and-left _ _ a)) (eqb-true (c .number) n e ∙ sym q)))
-    (λ e. due-listed n m cs (and-right (not (eqb (c .number) m)) _ a) (later n c cs e d .1))
+no-number : (n : ℕ) → nowhere ≡ at n → ⊥
+no-number n e = never (cc)
+
+number-of : (m n : ℕ) → at m ≡ at n → m ≡ n
+number-of m n e = cc
 
 module _ {ℓ} {A : Type ℓ} (refuse : ℕ → A) (go : A) where
   pub unless-first : (c : Check) (cs : List Check) → c .holds ≡ true → unless (c ∷ cs) refuse go ≡ refuse (c .number)
@@ -68,19 +63,24 @@ module _ {ℓ} {A : Type ℓ} (refuse : ℕ → A) (go : A) where
       (λ e. unless-first c (cs ++ more) (here n c cs e d) ∙ ap refuse (eqb-true (c .number) n e))
       (λ e. let r = later n c cs e d in unless-next c (cs ++ more) (r .0) ∙ due-given n cs more (r .1))
 
+  -- what is left where n is due
+  pub due-leaves : (n : ℕ) (cs : List Check) → due cs ≡ at n → unless cs refuse go ≡ refuse n
+  unfolding unless
+  due-leaves n [] e = absurd (no-number n e)
+  due-leaves n (c ∷ cs) e =
+      bool? (c .holds)
+      (λ t. unless-first c cs t ∙ ap refuse (number-of (c .number) n (rw (t, unless) at e)))
+      (λ f. unless-next c cs f ∙ due-leaves n cs (rw (f, unless) at e))
+
   -- and only then: G n says of an outcome that it is the refusal n
   module _ (G : ℕ → A → Type 0) (one : (n m : ℕ) → G n (refuse m) → m ≡ n) (none : (n : ℕ) → G n go → ⊥) where
-    pub given-due : (n : ℕ) (cs : List Check) → once cs ≡ true → G n (unless cs refuse go) → Due n cs
-    unfolding once unless
-    given-due n [] o g = none n g
-    given-due n (c ∷ cs) o g =
+    pub refused-due : (n : ℕ) (cs : List Check) → G n (unless cs refuse go) → due cs ≡ at n
+    unfolding unless
+    refused-due n [] g = absurd (none n g)
+    refused-due n (c ∷ cs) g =
         bool? (c .holds)
-        (λ e.
-        let same : eqb (c .number) n ≡ true = eq-eqb (c .number) n (one n (c .number) (subst (G n) (unless-first c cs e) g)) in
-        subst (λ (b : Bool). dueIf b (c .holds) (Due n cs)) (sym same) e)
-        (λ e.
-        let d : Due n cs = given-due n cs (and-right (absent (c .number) cs) _ o) (subst (G n) (unless-next c cs e) g) in
-        subst (λ (b : Bool). dueIf b (c .holds) (Due n cs)) (sym (due-listed n (c .number) cs (and-left _ _ o) d)) (e, d))
+        (λ e. rw (e, unless) (ap at (one n (c .number) (subst (G n) (unless-first c cs e) g))))
+        (λ e. rw (e, unless) (refused-due n cs (subst (G n) (unless-next c cs e) g)))
 
   -- an outcome that is no refusal has passed all checks
   pub clear-of : (G : ℕ → A → Type 0) → ((n : ℕ) → G n (refuse n)) → (cs : List Check) → ((n : ℕ) → G n (unless cs refuse go) → ⊥)
@@ -117,35 +117,3 @@ pub clear-passed {ℓ} : {A : Type ℓ} (refuse : ℕ → A) (go : A) (cs : List
 unfolding unless
 clear-passed refuse go [] v = refl
 clear-passed refuse go (c ∷ cs) v = unless-next refuse go c cs (v .0) ∙ clear-passed refuse go cs (v .1)
-
--- ---- checks and the reasons that they decide
-
--- each check decides its reason, where no reason before it holds
-abbrev pub Decides : List Check → List Reason → Type 0
-Decides [] [] = Unit {0}
-Decides [] (r ∷ rs) = ⊥
-Decides (c ∷ cs) [] = ⊥
-Decides (c ∷ cs) (r ∷ rs) = (c .number ≡ r .number) × (c .holds ≡ true → r .because) × (c .holds ≡ false → r .because → ⊥) × (c .holds ≡ false → Decides cs rs)
-
-pub decides-due : (n : ℕ) (cs : List Check) (rs : List Reason) → Decides cs rs → Exactly (Due n cs) (DueBy n rs)
-decides-due n [] [] d = (λ x. x, λ x. x)
-decides-due n (c ∷ cs) (r ∷ rs) d =
-    let same : eqb (c .number) n ≡ eqb (r .number) n = ap (λ (m : ℕ). eqb m n) (d .0) in
-    bool? (eqb (c .number) n)
-    (λ e. (
-      λ q. subst (λ (b : Bool). dueBy b (r .because) (DueBy n rs)) (sym e ∙ same) (d .1 (subst (λ (b : Bool). dueIf b (c .holds) (Due n cs)) e q)),
-      λ q. subst (λ (b : Bool). dueIf b (c .holds) (Due n cs)) (sym e)
-          (holds-if (subst (λ (b : Bool). dueBy b (r .because) (DueBy n rs)) (sym same ∙ e) q)),
-    ))
-    (λ e. (
-      λ q.
-          let p = subst (λ (b : Bool). dueIf b (c .holds) (Due n cs)) e q in
-          subst (λ (b : Bool). dueBy b (r .because) (DueBy n rs)) (sym e ∙ same) (d .2 (p .0), decides-due n cs rs (d .3 (p .0)) .0 (p .1)),
-      λ q.
-          let p = subst (λ (b : Bool). dueBy b (r .because) (DueBy n rs)) (sym same ∙ e) q in
-          let f : c .holds ≡ false = is-false (c .holds) (λ t. p .0 (d .1 t)) in
-          subst (λ (b : Bool). dueIf b (c .holds) (Due n cs)) (sym e) (f, decides-due n cs rs (d .3 f) .1 (p .1)),
-    ))
-  where
-    holds-if : r .because → c .holds ≡ true
-    holds-if p = bool? (c .holds) (λ t. t) (λ f. absurd (d .2 f p))
