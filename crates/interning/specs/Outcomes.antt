@@ -6,10 +6,11 @@ use native.Mathlib.Omega.{arith}
 use lib.ListN.{length, replicate}
 use borrow.Author.Tests.{eq-eqb, ne-eqb, lt-ltb, le-ltb}
 use Rattle.stacks.specs.Forest.{none, over}
-use Rattle.words.specs.Names.{emptyMark, compacted}
+use Rattle.words.specs.Names.{emptyMark}
+use Rattle.words.specs.Compact.{compacted}
 use Rattle.words.specs.declared.names.Compacted.the-variants.{Mark, State, OutOfRange}
 use Rattle.words.specs.declared.names.CompactState.{CompactState}
-use Rattle.words.specs.Names.Laws.{state-of-compacted, mark-of-compacted, out-of-compacted}
+use Rattle.words.specs.Compact.Laws.{state-of-compacted, mark-of-compacted, out-of-compacted}
 use Rattle.arena.specs.Store.{end, push, Store, tree}
 use Rattle.arena.specs.Place.{place, intern}
 use Rattle.arena.specs.Placed.{place-single}
@@ -29,17 +30,21 @@ use Rattle.words.specs.declared.refusals.Refusal.{Refusal}
 use Rattle.store.specs.Admit.{Admits, cleared}
 use Rattle.store.specs.declared.inner.admit.Admitted.{Admitted}
 use Rattle.store.specs.declared.inner.admit.Admitted.the-variants.{Ready as ready, Refused}
-use Rattle.store.specs.Calls.{refused, context, Left, zeros, leaves}
+use Rattle.store.specs.Calls.{Reply, refused, context, Left, zeros, leaves}
 use Rattle.store.specs.Nested.{grown}
 use Rattle.interning.specs.Live.{Live, Pushed, live-count, ready-live}
 use Rattle.interning.specs.SingletonCall.Laws.{singleton-nested, ifState, placedSingle}
 use Rattle.interning.specs.SingletonCall.{singletonCall}
 use Rattle.interning.specs.Interned.{Interns}
-use Rattle.interning.specs.Replies.{madeReply}
 use Rattle.interning.specs.declared.inner.intern.Made.{Made}
 use Rattle.interning.specs.declared.inner.intern.Made.the-variants.{At, NoRoom}
 
 -- ---- a context that is made, or no room
+
+-- what `Made` stands for as a reply: 6 where there is no room
+abbrev pub madeReply : Made → Reply
+madeReply (At c) = context (c .0)
+madeReply NoRoom = refused 6
 
 module _ (w : List ℕ) (x : ℕ × Store) where
   pub grown-fits : (w′ : List ℕ) (c : ℕ) → Fits (x .1) → c ≡ x .0 → w′ ≡ wordsOf (x .1) → leaves (context c) w′ zeros ≡ grown w x

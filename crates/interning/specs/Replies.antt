@@ -1,8 +1,6 @@
 -- To believe: what the answers of this crate stand for.
 use Rattle.words.specs.Refusals.{number}
 use Rattle.store.specs.Calls.{Reply, refused, context}
-use Rattle.interning.specs.declared.inner.intern.Made.{Made}
-use Rattle.interning.specs.declared.inner.intern.Made.the-variants.{At, NoRoom}
 use Rattle.interning.specs.declared.single.Numbered.{Numbered}
 use Rattle.interning.specs.declared.single.Numbered.the-variants.{Number, Refused}
 
@@ -10,8 +8,3 @@ use Rattle.interning.specs.declared.single.Numbered.the-variants.{Number
 abbrev pub numbered : Numbered → Reply
 numbered (Number c) = context (c .0)
 numbered (Refused f) = refused (number f)
-
--- 6 where there is no room
-abbrev pub madeReply : Made → Reply
-madeReply (At c) = context (c .0)
-madeReply NoRoom = refused 6

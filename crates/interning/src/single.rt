@@ -15,7 +15,8 @@ ghost use Rattle.store.specs.Calls.{leaves};
 ghost use Rattle.interning.specs.SingletonCall.Laws.{placedSingle};
 ghost use Rattle.interning.specs.SingletonCall.{singletonCall};
 ghost use Rattle.interning.specs.Live.{Live};
-ghost use Rattle.interning.specs.Replies.{madeReply, numbered};
+ghost use Rattle.interning.specs.Outcomes.{madeReply};
+ghost use Rattle.interning.specs.Replies.{numbered};
 
 // What a call that may make a context answers.
 pub enum Numbered {

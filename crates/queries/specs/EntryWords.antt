@@ -7,8 +7,9 @@ use native.Mathlib.Omega.{arith}
 use lib.Dec.{eqb}
 use lib.ListN.{length}
 use borrow.Author.Tests.{eq-eqb, ne-eqb}
-use Rattle.words.specs.Names.{emptyMark, expanded}
-use Rattle.words.specs.Names.Laws.{expanded-state}
+use Rattle.words.specs.Names.{emptyMark}
+use Rattle.words.specs.Compact.{expanded}
+use Rattle.words.specs.Compact.Laws.{expanded-state}
 use Rattle.cases.specs.Numbers.{two}
 use Rattle.stacks.specs.Forest.{mem}
 use Rattle.stacks.specs.Merge.{isMark}

@@ -5,8 +5,8 @@ use Prim.Native.Nat.{ℕ, zero, suc, _<_, _≤_, _+_}
 use native.Mathlib.Omega.{arith}
 use lib.Dec.{eqb}
 use borrow.Author.Tests.{eq-eqb, ne-eqb}
-use Rattle.words.specs.Names.{expanded}
-use Rattle.words.specs.Names.Laws.{expanded-mark, expanded-state}
+use Rattle.words.specs.Compact.{expanded}
+use Rattle.words.specs.Compact.Laws.{expanded-mark, expanded-state}
 use Rattle.cases.specs.Numbers.{two}
 use Rattle.arena.specs.Store.{Node, end, dollar, push, Store}
 use Rattle.arena.specs.Kinds.{size}

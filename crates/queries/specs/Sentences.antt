@@ -5,7 +5,7 @@ use Prim.Native.Nat.{ℕ, zero, suc, _<_, _≤_, _+_}
 use native.Mathlib.Omega.{arith}
 use lib.ListN.{length}
 use Rattle.words.specs.Names.{emptyMark}
-use Rattle.words.specs.Names.Laws.{expanded-mark}
+use Rattle.words.specs.Compact.Laws.{expanded-mark}
 use Rattle.arena.specs.Store.{Node, end, dollar, push, nodeAt}
 use Rattle.arena.specs.Kinds.{size}
 use Rattle.layout.specs.Layout.{storeWords, stop, kind, first, second, state as stateWord}

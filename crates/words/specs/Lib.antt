@@ -3,5 +3,6 @@ pub mod Hash
 pub mod Lent
 pub mod Multiply
 pub mod Names
+pub mod Compact
 pub mod Provenance
 pub mod Refusals

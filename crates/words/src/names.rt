@@ -1,7 +1,7 @@
 // The four things of the border that are never taken for one another, and the stored form of a
 // return state.
 ghost use mathlib.Core.Path.{_≡_};
-ghost use Rattle.words.specs.Names.{compacted, expanded};
+ghost use Rattle.words.specs.Compact.{compacted, expanded};
 
 // The number of a context of a store.
 #[repr(C)]

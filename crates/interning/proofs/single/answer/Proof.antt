@@ -1,7 +1,7 @@
 -- By cases.
 use borrow.Author.Needs.{needs}
 use mathlib.Core.Path.{sym, ap}
-use Rattle.interning.specs.Replies.{madeReply}
+use Rattle.interning.specs.Outcomes.{madeReply}
 use Rattle.interning.proofs.single.answer.Statement.{statement}
 use Rattle.interning.proofs.single.answer.Tie as tie
 

@@ -1,7 +1,7 @@
 -- By kind and index: an array, past the end, a singleton's state, context 0's empty mark.
 use borrow.Author.Needs.{needs}
 use mathlib.Core.Path.{sym, ap, _∙_}
-use Rattle.words.specs.Names.{expanded}
+use Rattle.words.specs.Compact.{expanded}
 use Rattle.store.specs.Calls.{state}
 use Rattle.queries.specs.EntryWords.{few, state-other-past, state-one, state-zero}
 use Rattle.queries.proofs.states.state_at.Statement.{statement}

@@ -1,7 +1,7 @@
 -- `compact` answers what `compacted` says: each `return` cites the law of its range.
 use borrow.Author.Needs.{needs}
 use native.Mathlib.Omega.{arith}
-use Rattle.words.specs.Names.Laws.{compacted-mark, compacted-state, compacted-out}
+use Rattle.words.specs.Compact.Laws.{compacted-mark, compacted-state, compacted-out}
 use mathlib.Core.Path.{sym}
 use Rattle.words.proofs.names.compact.Statement.{statement}
 use Rattle.words.proofs.names.compact.Tie as tie

@@ -1,7 +1,7 @@
 -- `expand` answers what `expanded` says: each `return` cites the law of its case.
 use borrow.Author.Needs.{needs}
 use mathlib.Core.Path.{sym}
-use Rattle.words.specs.Names.Laws.{expanded-mark, expanded-state}
+use Rattle.words.specs.Compact.Laws.{expanded-mark, expanded-state}
 use Rattle.words.proofs.names.expand.Statement.{statement}
 use Rattle.words.proofs.names.expand.Tie as tie
 

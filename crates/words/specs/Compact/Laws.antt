@@ -7,7 +7,8 @@ use native.Mathlib.Omega.{arith}
 use borrow.Author.Tests.{eq-eqb, ne-eqb, lt-ltb, le-ltb}
 use Rattle.words.specs.declared.names.CompactState.{CompactState}
 use Rattle.words.specs.declared.names.Compacted.the-variants.{Mark, State, OutOfRange}
-use Rattle.words.specs.Names.{compacted, compactMark, emptyMark, expanded}
+use Rattle.words.specs.Names.{emptyMark}
+use Rattle.words.specs.Compact.{compacted, compactMark, expanded}
 use Rattle.cases.specs.Numbers.{never}
 
 pub compacted-mark : (r : ℕ) → r ≡ emptyMark → compacted r ≡ Mark
