@@ -2,7 +2,7 @@
 pub mod Laws
 use mathlib.Core.Bool.{true, false}
 use Prim.Native.Nat.{ℕ}
-use Rattle.store.specs.Calls.{Reply, refused, done, shown, context, count, state, holds, none}
+use Rattle.store.specs.Calls.{Reply, refused, done, context, count, state, holds, none}
 use Rattle.answers.specs.declared.structs.Answer.{Answer}
 use Rattle.answers.specs.declared.structs.EntryAnswer.{EntryAnswer}
 
@@ -13,7 +13,6 @@ entry n f v = record { refusal = n; found = f; value = v }
 unfoldable pub entryOf : Reply → EntryAnswer
 entryOf (refused n) = entry n 0 0
 entryOf done = entry 0 0 0
-entryOf shown = entry 0 0 0
 entryOf (context c) = entry 0 1 c
 entryOf (count n) = entry 0 1 n
 entryOf (state s) = entry 0 1 s

@@ -4,7 +4,8 @@ use mathlib.Core.List.{[], _∷_, _++_, append-assoc}
 use Prim.Native.Nat.{ℕ, suc, _<_, _≤_}
 use native.Mathlib.Omega.{arith}
 use lib.ListN.{length, length-append}
-use Rattle.stacks.specs.Forest.{Forest, none, mark, over, Some, From, Canon}
+use Rattle.stacks.specs.Forest.{Forest, none, mark, over}
+use Rattle.stacks.specs.Canon.{Some, From, Canon}
 use Rattle.arena.specs.Store.{Node, end, dollar, push, Store, treeOf, tree, nodeAt, at, nowhere, find}
 use Rattle.arena.specs.Soundness.{Rise, Full, Sound}
 use Rattle.arena.specs.Trees.{node-sound, node-rise, nodes-differ, find?, find-at, find-none, tree-new, tree-old, tree-node, treeOf-agree}

@@ -9,7 +9,8 @@ use lib.Dec.{eqb}
 use lib.ListN.{length}
 use borrow.Author.Tests.{eq-eqb, ne-eqb, eqb-true}
 use Rattle.cases.specs.Numbers.{two}
-use Rattle.stacks.specs.Forest.{Forest, Some, From, Canon}
+use Rattle.stacks.specs.Forest.{Forest}
+use Rattle.stacks.specs.Canon.{Some, From, Canon}
 use Rattle.arena.specs.Store.{Node, end, dollar, push, Store, treeOf, tree, nodeAt, same, Found, at, nowhere, find}
 use Rattle.arena.specs.Soundness.{Rise, Full, Sound}
 use Rattle.cases.specs.Bools.{and-left, and-right}

@@ -10,7 +10,7 @@ use borrow.Author.Tests.{not-false, ltb-true, leb-false}
 use Rattle.words.specs.Provenance.{markOf}
 use Rattle.words.specs.Provenance.Laws.{markOf-merged}
 use Rattle.stacks.specs.Forest.{mem}
-use Rattle.stacks.specs.Rules.{MergeRule}
+use Rattle.stacks.specs.Rules.Laws.{MergeRule}
 use Rattle.cases.specs.Numbers.{two}
 use Rattle.arena.specs.Store.{Store, tree}
 use Rattle.arena.specs.Place.{mergeS}

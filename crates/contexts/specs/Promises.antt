@@ -10,10 +10,11 @@ use native.Mathlib.Omega.{arith}
 use lib.Dec.{ltb}
 use lib.ListN.{length}
 use Rattle.cases.specs.Numbers.{below?}
-use Rattle.stacks.specs.Forest.{Forest, mem, Canon}
+use Rattle.stacks.specs.Forest.{Forest, mem}
+use Rattle.stacks.specs.Canon.{Canon}
 use Rattle.stacks.specs.Merge.{mergeT}
-use Rattle.stacks.specs.Rules.{MergeRule, WildcardMerge}
-use Rattle.stacks.specs.Rules.Laws.{merge-rule}
+use Rattle.stacks.specs.Rules.{WildcardMerge}
+use Rattle.stacks.specs.Rules.Laws.{MergeRule, merge-rule}
 use Rattle.arena.specs.Store.{Store, tree, at}
 use Rattle.arena.specs.Trees.{tree-canon}
 use Rattle.arena.specs.Stands.{stands}
@@ -21,7 +22,7 @@ use Rattle.arena.specs.Identity.{same-stacks}
 use Rattle.arena.specs.Place.{mergeS}
 use Rattle.arena.specs.Placed.{grew-tree, grew-length}
 use Rattle.arena.specs.Steps.{merge-holds, merge-grew, merge-same, merge-sides}
-use Rattle.arena.specs.Numbering.{parts, sets, Joins}
+use Rattle.arena.specs.Numbering.{parts, Joins}
 use Rattle.arena.specs.Numbering.Laws.{merge-numbers}
 use Rattle.arena.specs.Below.Laws.{tree-below, merge-below, place-below}
 use Rattle.layout.specs.Layout.{storeWords, stop, count as contexts}
@@ -33,7 +34,8 @@ use Rattle.encoding.specs.Good.{GoodStore}
 use Rattle.encoding.specs.Decoded.{decoded}
 use Rattle.encoding.specs.Decide.{sound}
 use Rattle.encoding.specs.Decide.Laws.{sound-true}
-use Rattle.store.specs.Checks.{order, inOrder, due}
+use Rattle.store.specs.Checks.{order, due}
+use Rattle.store.specs.Checks.Laws.{inOrder}
 use Rattle.store.specs.Calls.{refused, Left, leaves, refusal, made, Accepts}
 use Rattle.store.specs.Calls.Laws.{refused-exactly, refused-leaves, accepted, right-lengths, is-sound, both-known, has-room}
 use Rattle.store.specs.Nested.{ifKnown, grown}
@@ -138,7 +140,7 @@ module _ (w z : List ℕ) (a b : ℕ) (m : Bool) (c : ℕ) (w′ : List ℕ) (ok
       (rw (store-length w′ (contexts w′)) at there, λ σ. ap (λ (F : Forest). mem F σ) ((rw store-after) ∙ grew-tree (storeOf w) _ g k old))
 
   -- "New contexts take the next number: inner merges go in rising order of top state, each before the context above it, and nothing else is made."
-  pub merge-numbers-after : Joins (sets (storeOf w)) (parts (mergeT m (tree (storeOf w) a) (tree (storeOf w) b))) (sets (storeOf w′))
+  pub merge-numbers-after : Joins (storeOf w) (parts (mergeT m (tree (storeOf w) a) (tree (storeOf w) b))) (storeOf w′)
   merge-numbers-after = rw store-after (merge-numbers m (storeOf w) (passed .good .sound) a b ha hb)
 
 -- An accepted full-context merge stands for the union of its sides.

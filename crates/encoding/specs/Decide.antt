@@ -5,7 +5,7 @@ use mathlib.Core.List.{List, [], _∷_}
 use Prim.Native.Nat.{ℕ, suc}
 use lib.Dec.{eqb, ltb, leb}
 use lib.ListN.{length}
-use Rattle.arena.specs.Store.{Node, end, dollar, push, Store, Found, at, nowhere, find}
+use Rattle.arena.specs.Store.{Node, end, dollar, push, Store, at, nowhere, find}
 use Rattle.arena.specs.Kinds.{size}
 use Rattle.arena.specs.Room.{pool}
 use Rattle.layout.specs.Layout.{mostContexts, mostEntries, stop}
@@ -27,22 +27,15 @@ rises lo c end = true
 rises lo c dollar = true
 rises lo c (push r p n) = leb lo r && (ltb r stop && (ltb p c && rises (suc r) c n))
 
-unfoldable pub isNowhere : Found → Bool
-isNowhere (at c) = false
-isNowhere nowhere = true
-
 -- each record is such and has an entry, and no older record is the same
 unfoldable pub soundStore : Store → Bool
 soundStore [] = true
-soundStore (n ∷ s) = rises 0 (length s) n && (ltb 0 (size n) && (isNowhere (find n s) && soundStore s))
+soundStore (n ∷ s) = rises 0 (length s) n && (ltb 0 (size n) && elim (find n s) [ at c ↦ false | nowhere ↦ soundStore s ])
 
 -- the store is within the ceilings
 unfoldable pub fits : Store → Bool
 fits s = leb (length s) mostContexts && leb (pool s) mostEntries
 
-unfoldable pub goodStore : Store → Bool
-goodStore s = soundStore s && (ltb 0 (length s) && fits s)
-
 -- the words are sound
 unfoldable pub sound : List ℕ → Bool
-sound w = goodStore (storeOf w) && sameWords w (wordsOf (storeOf w))
+sound w = let s = storeOf w in soundStore s && (ltb 0 (length s) && (fits s && sameWords w (wordsOf s)))

@@ -16,7 +16,7 @@ use Rattle.layout.specs.Layout.{stop, count, used, kind, first, second, parent,
 use Rattle.layout.specs.Listing.Laws.{Entries}
 use Rattle.layout.specs.Decode.{nodeIn, storeIn, storeOf}
 use Rattle.layout.specs.Decode.Laws.{store-node, node-zero, node-one, node-many}
-use Rattle.layout.specs.Sound.{SoundWords, Parent, ofSingleton, ofEntry}
+use Rattle.layout.specs.Sound.{SoundWords}
 use Rattle.layout.specs.Encode.{wordsOf}
 use Rattle.encoding.specs.Reads.{lengths, lengths-zero, lengths-one, lengths-two, Sized, zeroth, single, several, lengths-pool-of}
 use Rattle.encoding.specs.Good.{GoodStore}
@@ -120,11 +120,6 @@ module _ (w : List ℕ) (c i : ℕ) where
     entries = rw (r .firsts, r .seconds) (filled-entries (state w) (parent w) 0 c i (push q p (push t o n)) (r .entries) v b (omega arith));
   }
 
-parent-older : (w : List ℕ) (c : ℕ) → (kind w c ≡ 1 → first w c < c) → (kind w c ≡ 2 → Entries (state w) (parent w) (first w c) (second w c) c)
-    → (p : ℕ) → Parent w c p → p < c
-parent-older w c one many p (ofSingleton e) = one e
-parent-older w c one many p (ofEntry e j h) = many e .older (first w c + j) (omega arith) (omega arith)
-
 -- ---- words that hold a good store are sound
 
 module _ (w : List ℕ) (s : Store) (v : Held w s) (g : GoodStore s) where
@@ -188,7 +183,8 @@ module _ (w : List ℕ) (s : Store) (v : Held w s) (g : GoodStore s) where
         counted = (omega (arith, g .some), omega (arith, g .fits), omega (arith, g .fits));
         root = root;
         kinds = kinds;
-        older = λ c p h. parent-older w c (λ e. one c h e .0) (λ e. many c h e .entries) p;
+        older = λ c h e. one c h e .0;
+        olderEntries = λ c j h e l. many c h e .entries .older (first w c + j) (omega arith) (omega arith);
         single = λ c h e. omega (arith, one c h e .1);
         long = λ c h e. many c h e .long;
         rise = λ c j h e l.

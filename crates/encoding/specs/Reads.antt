@@ -12,7 +12,7 @@ use Rattle.arena.specs.Room.{room, pool}
 use Rattle.layout.specs.Listing.Laws.{Entries, listing-size}
 use Rattle.layout.specs.Decode.{nodeIn, storeIn}
 use Rattle.layout.specs.Decode.Laws.{node-zero, node-one, node-many}
-use Rattle.layout.specs.Sound.{SoundWords, ofSingleton, ofEntry}
+use Rattle.layout.specs.Sound.{SoundWords}
 
 -- ---- the pool entries of the first records
 
@@ -74,7 +74,7 @@ module _ (w : List ℕ) (v : SoundWords w) (c : ℕ) (h : c < count w) where
 
   -- kind 1: the parent is older, and the state is no `$`
   pub single-reads : kind w c ≡ 1 → (first w c < c) × (second w c < stop)
-  single-reads e = (v .older c (first w c) h (ofSingleton e), omega (arith, v .single c h e))
+  single-reads e = (v .older c h e, omega (arith, v .single c h e))
 
   -- kind 2: sound entries, within the part of the pool that is in use
   pub array-entries : kind w c ≡ 2 → Entries (state w) (parent w) (first w c) (second w c) c
@@ -83,7 +83,7 @@ module _ (w : List ℕ) (v : SoundWords w) (c : ℕ) (h : c < count w) where
       let after : (j : ℕ) → first w c ≤ j → first w c + suc (j - first w c) ≡ suc j = λ j a. omega arith in
       record {
         fit = λ j a b. omega (arith, v .fit c (j - first w c) h e (omega arith), ap (state w) (at j a));
-        older = λ j a b. omega (arith, v .older c _ h (ofEntry e (j - first w c) (omega arith)), ap (parent w) (at j a));
+        older = λ j a b. omega (arith, v .olderEntries c (j - first w c) h e (omega arith), ap (parent w) (at j a));
         rise = λ j a b. omega (arith, v .rise c (j - first w c) h e (omega arith), ap (state w) (at j a), ap (state w) (after j a));
         dollar = λ j a b s. sym (ap (parent w) (at j a)) ∙ v .dollar c (j - first w c) h e (omega arith) (ap (state w) (at j a) ∙ s);
       }

@@ -10,9 +10,13 @@ use Rattle.groups.specs.Lists.{Any, In, Before, Rising, which}
 use Rattle.groups.specs.Lists.Laws.{some-map, some-in, in-some, every-in, every-of, pairwise-map, pairwise-both, before-map, before-asym}
 use Rattle.groups.specs.Lists.Laws.{sorted-unique, rising-unique, some-made, made-some, every-made, pairwise-made}
 use Rattle.groups.specs.Groups.{Group, altsOf, together, firsts, subset, groups}
-use Rattle.groups.specs.Sentences.{AtPlace, For, Of, Subsets}
+use Rattle.groups.specs.Sentences.{AtPlace, For, Subsets}
 use Rattle.groups.specs.Rising.{Passes, alts-rise, in-passing}
 use Rattle.groups.specs.Firsts.{together-kind, together-true, true-together, some-firsts, firsts-some, same-kind, firsts-once, firsts-order}
+
+-- the config is one of the group's
+abbrev Of : Group → Config → Type 0
+Of g c = AtPlace (g .state) (g .context) c
 
 -- ---- they hold
 

@@ -17,10 +17,6 @@ AtPlace s k c = (c .state ≡ s) × (c .context ≡ k)
 abbrev pub For : ℕ → ℕ → Group → Type 0
 For s k g = (g .state ≡ s) × (g .context ≡ k)
 
--- the config is one of the group's
-abbrev pub Of : Group → Config → Type 0
-Of g c = AtPlace (g .state) (g .context) c
-
 -- "Subsets: configs grouped by state and context, in order of each group's first config, alternatives rising"
 pub record Subsets (cs : List Config) (gs : List Group) : Type 0 where
   -- a state and a context have a group exactly if some config has both
@@ -28,11 +24,11 @@ pub record Subsets (cs : List Config) (gs : List Group) : Type 0 where
   -- and one only
   pub once : Pairwise (λ g h. For (g .state) (g .context) h → ⊥) gs
   -- an alternative is in a group exactly if some config has state, context and it
-  pub exact : All (λ g. (a : ℕ) → In a (g .alternatives) ↔ Any (λ c. Of g c × (c .alternative ≡ a)) cs) gs
+  pub exact : All (λ g. (a : ℕ) → In a (g .alternatives) ↔ Any (λ c. AtPlace (g .state) (g .context) c × (c .alternative ≡ a)) cs) gs
   -- alternatives rise
   pub rising : All (λ g. Rising (g .alternatives)) gs
   -- a group stands before another if a config of it comes before every config of the other
-  pub order : Pairwise (λ g h. Before (Of g) (Of h) cs) gs
+  pub order : Pairwise (λ g h. Before (AtPlace (g .state) (g .context)) (AtPlace (h .state) (h .context)) cs) gs
 
 -- two or more alternatives
 abbrev pub Many : Group → Type 0

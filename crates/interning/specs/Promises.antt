@@ -19,7 +19,7 @@ use Rattle.arena.specs.Identity.{tree-root}
 use Rattle.arena.specs.Stands.{stands}
 use Rattle.arena.specs.Place.{place}
 use Rattle.arena.specs.Placed.{grew-tree, place-grew, Holds, place-holds}
-use Rattle.arena.specs.Numbering.{parts, sets, Joins}
+use Rattle.arena.specs.Numbering.{parts, Joins}
 use Rattle.arena.specs.Numbering.Laws.{place-numbers}
 use Rattle.arena.specs.Below.Laws.{tree-below, place-below}
 use Rattle.layout.specs.Layout.{storeWords, stop, count as contexts}
@@ -33,7 +33,8 @@ use Rattle.encoding.specs.Decoded.{decoded}
 use Rattle.encoding.specs.Decide.{sound}
 use Rattle.encoding.specs.Decide.Laws.{sound-true, words-sound}
 use Rattle.encoding.specs.Written.{words-count}
-use Rattle.store.specs.Checks.{order, inOrder, due}
+use Rattle.store.specs.Checks.{order, due}
+use Rattle.store.specs.Checks.Laws.{inOrder}
 use Rattle.store.specs.Calls.{refused, Left, leaves, refusal, made, Accepts}
 use Rattle.store.specs.Calls.Laws.{determined, refused-exactly, refused-leaves, accepted, right-lengths, is-sound, is-known, has-room}
 use Rattle.store.specs.Told.{number-tells}
@@ -173,7 +174,7 @@ module _ (w z : List ℕ) (p r : ℕ) (c : ℕ) (w′ : List ℕ) (ok : Accepts 
       (rw (store-length w′ (contexts w′)) at there, λ σ. ap (λ (F : Forest). mem F σ) ((rw (a .store)) ∙ grew-tree (storeOf w) _ g k old)))
 
   -- "New contexts take the next number": the parts of the set, in the order in which they are complete, each unless a context stands for it
-  pub single-numbers : r < stop → Joins (sets (storeOf w)) (parts (over r (tree (storeOf w) p) none)) (sets (storeOf w′))
+  pub single-numbers : r < stop → Joins (storeOf w) (parts (over r (tree (storeOf w) p) none)) (storeOf w′)
   unfolding raised
   single-numbers l =
       let a = placed-after (ne-eqb r emptyMark (λ e. omega arith)) l .0 in

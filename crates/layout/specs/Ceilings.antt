@@ -1,4 +1,4 @@
--- To believe: the ceilings as a statement.
+-- The ceilings as a statement. Nothing here has to be believed.
 use Prim.Native.Nat.{_≤_}
 use lib.ListN.{length}
 use Rattle.arena.specs.Store.{Store}

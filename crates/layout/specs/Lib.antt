@@ -1,4 +1,4 @@
--- The words of a store. To believe: Layout, Listing, Decode, Encode, Ceilings, Sound.
+-- The words of a store. To believe: Layout, Listing, Decode, Encode, Sound.
 pub mod Layout
 pub mod Scratch
 pub mod Listing

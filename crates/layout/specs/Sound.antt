@@ -8,11 +8,6 @@ use Rattle.arena.specs.Room.{pool}
 use Rattle.layout.specs.Layout.{stop, mostContexts, mostEntries, count, used, kind, first, second, parent, state}
 use Rattle.layout.specs.Decode.{nodeIn, storeIn, storeOf}
 
--- p is a parent of record c: a singleton's, or that of an array's entry
-pub data Parent (w : List ℕ) (c : ℕ) : ℕ → Type 0 where
-  ofSingleton : kind w c ≡ 1 → Parent w c (first w c)
-  ofEntry : kind w c ≡ 2 → (j : ℕ) → j < second w c → Parent w c (parent w (first w c + j))
-
 pub record SoundWords (w : List ℕ) : Type 0 where
   -- "Word 0 is the context count (1 to 512), word 1 the pool entries in use (0 to 2,048)"
   pub counted : (1 ≤ count w) × (count w ≤ mostContexts) × (used w ≤ mostEntries)
@@ -20,7 +15,8 @@ pub record SoundWords (w : List ℕ) : Type 0 where
   pub root : (kind w 0 ≡ 0) × (first w 0 ≡ 0) × (second w 0 ≡ 0)
   pub kinds : (c : ℕ) → 0 < c → c < count w → (kind w c ≡ 1) ⊎ (kind w c ≡ 2)
   -- "each parent's number is below its child's"
-  pub older : (c p : ℕ) → c < count w → Parent w c p → p < c
+  pub older : (c : ℕ) → c < count w → kind w c ≡ 1 → first w c < c
+  pub olderEntries : (c j : ℕ) → c < count w → kind w c ≡ 2 → j < second w c → parent w (first w c + j) < c
   -- "singleton states are at most 4294967294"
   pub single : (c : ℕ) → c < count w → kind w c ≡ 1 → second w c ≤ 4294967294
   -- "array lengths are at least 2, states rise strictly, a `$` has parent 0"; a state is a 32-bit word

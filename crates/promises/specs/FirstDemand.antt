@@ -1,29 +1,44 @@
 -- Promised: demand 1. "Every call ends on every input with nothing undefined. Damage, unknown numbers and full tables are refused by number; a
 -- refusal changes nothing in store or set, and clears the scratch (a wrong length leaves it)." w, v, z and o are the words lent as store, set,
 -- scratch and output: any words, of any length. Nothing here has to be believed but what the statements say.
-use mathlib.Core.Path.{_≡_}
+use mathlib.Core.Path.{_≡_, ap}
 use mathlib.Core.Logic.{_↔_}
-use mathlib.Core.Bool.{Bool, true}
-use mathlib.Core.List.{List, []}
-use Prim.Native.Nat.{ℕ}
+use mathlib.Core.Bool.{Bool, true, not, _&&_}
+use mathlib.Core.List.{List, [], map, Sublistᴰ}
+use Prim.Native.Nat.{ℕ, _<_, _≤_}
+use lib.Dec.{eqb, leb}
 use lib.ListN.{length}
-use Rattle.arena.specs.Store.{at}
-use Rattle.layout.specs.Layout.{storeWords}
-use Rattle.store.specs.Checks.{order, inOrder, due}
+use borrow.Author.Tests.{eq-eqb, eqb-true, ltb-false, le-ltb, leb-true, le-leb, not-true}
+use Rattle.words.specs.Names.{emptyMark}
+use Rattle.arena.specs.Store.{Store, at}
+use Rattle.arena.specs.Room.{pool}
+use Rattle.layout.specs.Layout.{storeWords, scratchWords, mostContexts, mostEntries, stop, count as contexts}
+use Rattle.encoding.specs.Decide.{fits}
+use Rattle.encoding.specs.Decide.Laws.{fits-true, true-fits}
+use Rattle.store.specs.Checks.{Check, order, due}
+use Rattle.store.specs.Checks.Laws.{in-order}
 use Rattle.store.specs.Calls as Stores
-use Rattle.store.specs.Calls.{askChecks, freshCall}
+use Rattle.store.specs.Calls.{wrongLength, unknownContext, noRoom, askChecks, freshCall}
 use Rattle.store.specs.Told.{fresh-refused-exactly, fresh-refused-leaves}
 use Rattle.interning.specs.SingletonCall.{singletonChecks, singletonCall}
-use Rattle.interning.specs.Promises.{singleton-refused-exactly, singleton-refused-leaves, singleton-in-order}
+use Rattle.interning.specs.Promises.{singleton-refused-exactly, singleton-refused-leaves}
+use Rattle.interning.specs.Promises as Singles
 use Rattle.contexts.specs.MergeCall.{mergeChecks, mergeCall}
-use Rattle.contexts.specs.Promises.{merge-refused-exactly, merge-refused-leaves, merge-in-order}
+use Rattle.contexts.specs.Promises.{merge-refused-exactly, merge-refused-leaves}
+use Rattle.contexts.specs.Promises as Merges
 use Rattle.queries.specs.Queries.{Question, queryCall}
 use Rattle.queries.specs.Refused.{query-refused-exactly, query-refused-leaves, ask-in-order}
-use Rattle.sets.specs.Layout.{setWordsLength}
+use Rattle.sets.specs.Lists.{any}
+use Rattle.sets.specs.Layout.{mostConfigs, setWordsLength, configAt, configCount}
+use Rattle.sets.specs.Sets.{key, sameKey}
+use Rattle.sets.specs.Words.{setOf, SoundSet}
 use Rattle.sets.specs.Config.{Config}
 use Rattle.sets.specs.Calls as Sets
 use Rattle.sets.specs.Calls.{lentLengths, lentChecks, addChecks, freshSetCall, addCall, closeCall}
-use Rattle.sets.specs.Refusals.{add-refused-exactly, add-refused-leaves, add-in-order, close-refused-exactly, close-refused-leaves, close-in-order}
+use Rattle.sets.specs.Refusals.{add-refused-exactly, add-refused-leaves, close-refused-exactly, close-refused-leaves}
+use Rattle.sets.specs.Refusals as SetRefusals
+use Rattle.sets.specs.Refusals.{full-exactly}
+use Rattle.promises.specs.Words.{fails, two-hold}
 use Rattle.sets.specs.Refusals.{fresh-refused-exactly as fresh-set-exactly, fresh-refused-leaves as fresh-set-leaves}
 use Rattle.outputs.specs.Outputs.{subsetsLength, altsLength}
 use Rattle.verdicts.specs.Calls as Verdicts
@@ -80,24 +95,54 @@ module _ (w v z : List ℕ) (n : ℕ) where
     why-refuses w v z stops p n .0,
   )
 
--- "Refusal numbers, in order of checking": each call's checks stand in that order
-pub checks-in-order : (w v z o stops : List ℕ) (p r a b c n : ℕ) (m : Bool) (x : Config)
-    → (inOrder order (singletonChecks w z p r) ≡ true)
-    × (inOrder order (mergeChecks w z a b m) ≡ true)
-    × (inOrder order (askChecks w z c) ≡ true)
-    × (inOrder order (addChecks w v z x) ≡ true)
-    × (inOrder order (lentChecks (lentLengths w v z) w v []) ≡ true)
-    × (inOrder order (readChecks n [] w v z o) ≡ true)
-    × (inOrder order (readChecks n (tooManyStops stops) w v z o) ≡ true)
-checks-in-order w v z o stops p r a b c n m x = (
-  singleton-in-order w z p r n,
-  merge-in-order w z a b m n,
-  ask-in-order w z c,
-  add-in-order w v z x,
-  close-in-order w v z,
-  read-in-order w v z o n stops .0,
-  read-in-order w v z o n stops .1,
-)
+-- ---- "Given exactly when": each reason in words; that of 1 and of 3 are SecondDemand's `sound-exactly-by-the-clauses` and its like of sets
+
+-- 2: "a lent slice has a wrong length"
+pub reason-2 : (w z : List ℕ) → (wrongLength w z .holds ≡ true) ↔ ((length w ≡ storeWords) × (length z ≡ scratchWords) → ⊥)
+reason-2 w z =
+    let t = two-hold _ _ _ _ (eqb-true (length w) storeWords) (eq-eqb (length w) storeWords) (eqb-true (length z) scratchWords) (eq-eqb (length z) scratchWords) in
+    fails _ _ (t .0) (t .1)
+
+-- 4: "a context number is not below the count"
+pub reason-4 : (w : List ℕ) (c : ℕ) → (unknownContext w c .holds ≡ true) ↔ (contexts w ≤ c)
+reason-4 w c = (λ e. ltb-false c (contexts w) (not-true _ e), λ h. ap not (le-ltb c (contexts w) h))
+
+-- 5: "a return state from 4294967295 to 18446744073709551614"
+pub reason-5 : (r : ℕ) → ((leb stop r && not (eqb r emptyMark)) ≡ true) ↔ ((stop ≤ r) × (r ≡ emptyMark → ⊥))
+reason-5 r =
+    let f = fails (eqb r emptyMark) (r ≡ emptyMark) (eqb-true r emptyMark) (eq-eqb r emptyMark) in
+    two-hold _ _ _ _ (leb-true stop r) (le-leb stop r) (f .0) (f .1)
+
+-- 8: "`add` with a new key to a set of 256"
+pub reason-8 : (k : ℕ) (v : List ℕ) (x : Config) → SoundSet k v
+    → ((not (any (sameKey x) (setOf v .configs)) && leb mostConfigs (length (setOf v .configs))) ≡ true)
+    ↔ (((i : ℕ) → i < configCount v → key (configAt v i) ≡ key x → ⊥) × (configCount v ≡ mostConfigs))
+reason-8 = full-exactly
+
+-- 6: "the same call in a store without ceilings would end above 512 contexts or 2,048 entries"
+pub reason-6 : (s : Store) → (noRoom s .holds ≡ true) ↔ ((length s ≤ mostContexts) × (pool s ≤ mostEntries) → ⊥)
+reason-6 s = fails (fits s) _ (fits-true s) (true-fits s)
+
+-- "Refusal numbers, in order of checking": the numbers of each call's checks are among `order`, in that order
+module _ (w v z o stops : List ℕ) (p r a b c n : ℕ) (m : Bool) (x : Config) where
+  pub singleton-in-order : Sublistᴰ (map (λ (k : Check). k .number) (singletonChecks w z p r)) order
+  singleton-in-order = in-order order _ (Singles.singleton-in-order w z p r n)
+
+  pub merge-in-order : Sublistᴰ (map (λ (k : Check). k .number) (mergeChecks w z a b m)) order
+  merge-in-order = in-order order _ (Merges.merge-in-order w z a b m n)
+
+  pub query-in-order : Sublistᴰ (map (λ (k : Check). k .number) (askChecks w z c)) order
+  query-in-order = in-order order _ (ask-in-order w z c)
+
+  pub add-in-order : Sublistᴰ (map (λ (k : Check). k .number) (addChecks w v z x)) order
+  add-in-order = in-order order _ (SetRefusals.add-in-order w v z x)
+
+  pub close-in-order : Sublistᴰ (map (λ (k : Check). k .number) (lentChecks (lentLengths w v z) w v [])) order
+  close-in-order = in-order order _ (SetRefusals.close-in-order w v z)
+
+  pub subset-calls-in-order : Sublistᴰ (map (λ (k : Check). k .number) (readChecks n [] w v z o)) order
+      × Sublistᴰ (map (λ (k : Check). k .number) (readChecks n (tooManyStops stops) w v z o)) order
+  subset-calls-in-order = (in-order order _ (read-in-order w v z o n stops .0), in-order order _ (read-in-order w v z o n stops .1))
 
 -- ---- "a refusal changes nothing in store or set, and clears the scratch (a wrong length leaves it)"
 

@@ -6,7 +6,7 @@ use mathlib.Core.Bool.{Bool, true, false}
 use mathlib.Core.List.{List, List·Memᴰ}
 use Prim.Native.Nat.{ℕ, _<_}
 use lib.ListN.{length}
-use Rattle.stacks.specs.Forest.{Forest, mem, Some, Canon}
+use Rattle.stacks.specs.Forest.{Forest, mem}
 use Rattle.arena.specs.Stands.{stands}
 use Rattle.layout.specs.Layout.{storeWords, count as contexts}
 use Rattle.layout.specs.Decode.{storeOf}
@@ -45,5 +45,5 @@ swallows l t run a c = (Laws.swallows-right l t run a c, Laws.swallows-left l t 
 -- "for every context there is a set of stacks, in this store or not, that a union with it changes, so nothing is neutral in a full merge": the set G
 -- has a stack, and lacks one of the context's
 pub none-neutral : (w : List ℕ) → length w ≡ storeWords → sound w ≡ true → (c : ℕ) → c < contexts w
-    → (G : Forest) × Canon G × Some G × ((σ : List ℕ) × (mem G σ ≡ false) × (stands (storeOf w) c σ ≡ true))
+    → (G : Forest) × ((ρ : List ℕ) × (mem G ρ ≡ true)) × ((σ : List ℕ) × (mem G σ ≡ false) × (stands (storeOf w) c σ ≡ true))
 none-neutral = Laws.none-neutral

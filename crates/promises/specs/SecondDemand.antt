@@ -3,7 +3,7 @@
 -- Nothing here has to be believed but what the statements say.
 use mathlib.Core.Path.{_≡_, refl, ap, _∙_}
 use mathlib.Core.Logic.{_↔_}
-use mathlib.Core.Bool.{Bool, true, false, not, _&&_}
+use mathlib.Core.Bool.{Bool, true, false, not, _&&_, _||_}
 use mathlib.Core.List.{List, [], _∷_, flatMap, List·Memᴰ}
 use Prim.Native.Nat.{ℕ, suc, _<_, _≤_, _+_, max}
 use native.Mathlib.Omega.{arith}
@@ -15,16 +15,16 @@ use Rattle.words.specs.Provenance.{markOf}
 use Rattle.stacks.specs.Forest.{Forest, over, mem}
 use Rattle.stacks.specs.Forest as Forests
 use Rattle.stacks.specs.Merge.{mergeT}
-use Rattle.stacks.specs.Rules.{Stacks, MergeRule, WildcardMerge}
+use Rattle.stacks.specs.Rules.{Stacks, WildcardMerge}
 use Rattle.stacks.specs.Rules.Laws.{wildcard-determined}
-use Rattle.arena.specs.Store.{end, dollar, treeOf, tree, nodeAt}
+use Rattle.arena.specs.Store.{end, dollar, Store, treeOf, tree, nodeAt}
 use Rattle.arena.specs.Trees.{tree-node}
 use Rattle.arena.specs.Place.{intern}
 use Rattle.arena.specs.Kinds.{size}
 use Rattle.arena.specs.Kinds.Laws.{intern-end, intern-dollar}
 use Rattle.arena.specs.Stands.{stands}
-use Rattle.arena.specs.Numbering.{parts, sets, Joins, setAt}
-use Rattle.arena.specs.Numbering.Laws.{sets-at, joins-determined}
+use Rattle.arena.specs.Numbering.{parts, Joins}
+use Rattle.arena.specs.Numbering.Laws.{joins-determined}
 use Rattle.arena.specs.Identity.{finite-stacks, some-stack, root-stands}
 use Rattle.layout.specs.Layout.{storeWords, scratchWords, stop, blank, count as contexts, kind, first, second, state}
 use Rattle.layout.specs.Decode.{storeOf}
@@ -153,18 +153,14 @@ module _ (w z : List ℕ) (p r c : ℕ) (w′ : List ℕ) (ok : Accepts (singlet
   singleton-sound = single-sound-after w z p r c w′ ok
 
   -- "New contexts take the next number .. and nothing else is made."
-  pub singleton-numbers : r < stop → Joins (sets (storeOf w)) (parts (over r (tree (storeOf w) p) Forests.none)) (sets (storeOf w′))
+  pub singleton-numbers : r < stop → Joins (storeOf w) (parts (over r (tree (storeOf w) p) Forests.none)) (storeOf w′)
   singleton-numbers = single-numbers w z p r c w′ ok
 
 -- ---- an accepted merge
 
--- a number is the place of its set among those of the store, from which the next number is told
-pub numbers-are-places : (w : List ℕ) (c : ℕ) → c < contexts w → setAt (sets (storeOf w)) c ≡ tree (storeOf w) c
-numbers-are-places w c h = sets-at (storeOf w) c (known w c h)
-
--- and that rule leaves no choice
-pub no-choice-of-numbers : {K Fs a b : List Forest} → Joins K Fs a → Joins K Fs b → a ≡ b
-no-choice-of-numbers = joins-determined
+-- that rule leaves no choice: as many contexts, and number by number the same sets
+pub no-choice-of-numbers : {s u v : Store} {Fs : List Forest} → Joins s Fs u → Joins s Fs v → (length u ≡ length v) × ((c : ℕ) → tree u c ≡ tree v c)
+no-choice-of-numbers p q = let r = joins-determined (record { count = refl; each = λ c. refl }) p q in (r .count, r .each)
 
 -- "Wildcard merge of A and B", sentence by sentence; the full-context merge is demand 3's
 pub wildcard : (w z : List ℕ) (a b c : ℕ) (w′ : List ℕ) → Accepts (mergeCall w z a b true) c w′
@@ -181,7 +177,7 @@ module _ (w z : List ℕ) (a b : ℕ) (m : Bool) (c : ℕ) (w′ : List ℕ) (ok
   merge-sound = merge-sound-after w z a b m c w′ ok
 
   -- "New contexts take the next number: inner merges go in rising order of top state, each before the context above it, and nothing else is made."
-  pub merge-numbers : Joins (sets (storeOf w)) (parts (mergeT m (tree (storeOf w) a) (tree (storeOf w) b))) (sets (storeOf w′))
+  pub merge-numbers : Joins (storeOf w) (parts (mergeT m (tree (storeOf w) a) (tree (storeOf w) b))) (storeOf w′)
   merge-numbers = merge-numbers-after w z a b m c w′ ok
 
 -- ---- config sets
@@ -214,8 +210,12 @@ module _ (w v z : List ℕ) (x : Config) (a : ℕ) (w′ v′ : List ℕ)
     )
 
     -- the config's context stands for the union of both in a full-context set, and for document 01's wildcard merge in another
-    pub add-stands : MergeRule (not (flag 1 v)) (stands (storeOf w) (configAt v i .context)) (stands (storeOf w) (x .context)) (stands (storeOf w′) (configAt v′ i .context))
-    add-stands = Added.merged-stands w v z x a w′ v′ (add-leaves w v z x a w′ v′ ok) i here same
+    pub add-stands : (flag 1 v ≡ true → (σ : List ℕ)
+        → stands (storeOf w′) (configAt v′ i .context) σ ≡ (stands (storeOf w) (configAt v i .context) σ || stands (storeOf w) (x .context) σ))
+        × (flag 1 v ≡ false → WildcardMerge (stands (storeOf w) (configAt v i .context)) (stands (storeOf w) (x .context)) (stands (storeOf w′) (configAt v′ i .context)))
+    add-stands =
+        let r = Added.merged-stands w v z x a w′ v′ (add-leaves w v z x a w′ v′ ok) i here same in
+        (λ e. rw e at r, λ e. rw e at r)
 
   -- "Otherwise the config goes last, answer "inserted".": 1
   pub add-inserts : ((i : ℕ) → i < configCount v → key (configAt v i) ≡ key x → ⊥)

@@ -1,10 +1,11 @@
 -- Words that pass the test hold a sound store, and what the layers ask of lent words. Nothing here has to be believed.
 use mathlib.Core.Path.{_≡_, refl, sym, ap, _∙_}
-use mathlib.Core.Bool.{true}
+use mathlib.Core.Logic.{_↔_}
+use mathlib.Core.Bool.{Bool, true, not, _&&_}
 use mathlib.Core.List.{List, [], _∷_}
 use Prim.Native.Nat.{ℕ, _<_}
 use lib.ListN.{length}
-use borrow.Author.Tests.{eq-eqb, lt-ltb}
+use borrow.Author.Tests.{eq-eqb, lt-ltb, not-true}
 use Rattle.arena.specs.Soundness.{Sound}
 use Rattle.layout.specs.Layout.{storeWords, scratchWords, count as contexts}
 use Rattle.layout.specs.Sound.{SoundWords}
@@ -15,6 +16,7 @@ use Rattle.encoding.specs.Decoded.{decoded}
 use Rattle.encoding.specs.Decide.{sound}
 use Rattle.encoding.specs.Decide.Laws.{sound-true}
 use Rattle.store.specs.Asks.{Known}
+use Rattle.cases.specs.Bools.{bool?, never-both, and-left, and-right, both-true}
 use Rattle.cases.specs.Numbers.{never}
 use Rattle.store.specs.Checks.{Check, unless}
 use Rattle.store.specs.Checks.Laws.{clear-of, clear-passed}
@@ -72,3 +74,13 @@ module _ (w v z : List ℕ) where
       → closeCall w v z ≡ setLeft done w′ v′ zeros
   unfolding closeCall
   close-leaves w′ v′ ok = accepted (lentChecks (lentLengths w v z) w v []) _ done w′ v′ (λ n e. never (cc)) refl (ok .0) (ok .1) (ok .2)
+
+-- ---- a check in words
+
+-- of a test that must not fail
+pub fails : (b : Bool) (P : Type 0) → (b ≡ true → P) → (P → b ≡ true) → (not b ≡ true) ↔ (P → ⊥)
+fails b P so back = (λ e p. never-both (back p) (not-true b e), λ n. bool? b (λ t. absurd (n (so t))) (λ f. ap not f))
+
+-- of two tests
+pub two-hold : (a b : Bool) (P Q : Type 0) → (a ≡ true → P) → (P → a ≡ true) → (b ≡ true → Q) → (Q → b ≡ true) → ((a && b) ≡ true → P × Q) × (P × Q → (a && b) ≡ true)
+two-hold a b P Q f g h k = (λ e. (f (and-left a b e), h (and-right a b e)), λ q. both-true a b (g (q .0)) (k (q .1)))

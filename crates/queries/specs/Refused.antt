@@ -8,7 +8,8 @@ use lib.Dec.{eqb}
 use Rattle.cases.specs.Numbers.{never}
 use Rattle.arena.specs.Store.{Node, end, dollar, push, Store, nodeAt, at}
 use Rattle.layout.specs.Decode.{storeOf}
-use Rattle.store.specs.Checks.{order, inOrder, due}
+use Rattle.store.specs.Checks.{order, due}
+use Rattle.store.specs.Checks.Laws.{inOrder}
 use Rattle.store.specs.Calls.{Reply, refused, context, state, none, refusal, askChecks}
 use Rattle.store.specs.Asks.{asked-refused-exactly, asked-refused-leaves}
 use Rattle.queries.specs.Queries.{Question, entryCount, isEmpty, hasEmptyPath, entryState, entryParent, entryAt, answerTo, queryCall}

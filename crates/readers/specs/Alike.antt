@@ -4,7 +4,7 @@ use mathlib.Core.Bool.{Bool, true, false, not, _&&_, _||_}
 use mathlib.Core.List.{List, [], _∷_, _++_, map}
 use Prim.Native.Nat.{ℕ, zero, suc}
 use lib.Dec.{leb}
-use lib.ListN.{length}
+use lib.ListN.{length, getD}
 use Rattle.arena.specs.Store.{Found, at, nowhere}
 use Rattle.sets.specs.Config.{Config}
 use Rattle.sets.specs.Lists.{any}
@@ -12,7 +12,7 @@ use Rattle.sets.specs.Layout.{mostConfigs}
 use Rattle.sets.specs.Sets.{Set, withConfigs, key, sameKey, held, joined, joinedAll}
 use Rattle.groups.specs.Groups.{Group}
 use Rattle.groups.specs.Renamed.{Each, none, more, each-length, moved, Twin, twin, TwinGroup, twinGroup}
-use Rattle.readers.specs.Calls.{Plain, Part, part, Got, refused, context, groups, plain, nth}
+use Rattle.readers.specs.Calls.{Plain, Part, part, Got, refused, context, groups, plain}
 use Rattle.readers.specs.Runs.{heard}
 use Rattle.readers.specs.Pure.{partOf}
 
@@ -71,11 +71,11 @@ sets-wider R Q wider (set S l) = set S (configs-wider R Q wider l)
 module _ (R : Rel) where
   -- ---- answers
 
-  pub nth-alike : (k : ℕ) {cs ds : List ℕ} → Each R cs ds → Founds R (nth cs k) (nth ds k)
-  unfolding nth
-  nth-alike k none = neither
-  nth-alike zero (more r l) = both r
-  nth-alike (suc k) (more r l) = nth-alike k l
+  -- where 0 is alike with itself, so is what is named
+  pub named-alike : (k : ℕ) {cs ds : List ℕ} → R 0 0 → Each R cs ds → R (getD cs k 0) (getD ds k 0)
+  named-alike k z none = z
+  named-alike zero z (more r l) = r
+  named-alike (suc k) z (more r l) = named-alike k z l
 
   part-context : (x y : Part ℕ) → Parts R x y → R (x .context) (y .context)
   part-context x y (parts q l r) = r

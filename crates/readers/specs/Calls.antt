@@ -4,7 +4,6 @@ use mathlib.Core.Bool.{Bool}
 use mathlib.Core.List.{List, [], _∷_}
 use Prim.Native.Nat.{ℕ, zero, suc}
 use lib.ListN.{length, getD, take, drop}
-use Rattle.arena.specs.Store.{Found, at, nowhere}
 use Rattle.layout.specs.Layout.{scratchWords}
 use Rattle.store.specs.Calls as Stores
 use Rattle.store.specs.Calls.{Reply, Left}
@@ -19,7 +18,8 @@ use Rattle.verdicts.specs.Calls as Verdicts
 use Rattle.verdicts.specs.Calls.{VerdictReply, VerdictLeft, conflictingAltSubsetsCall, conflictingAltsCall, uniqueAltCall, singleViableAltCall, allSubsetsConflictCall, allSubsetsEqualCall}
 use Rattle.verdicts.specs.Calls.{verdictCall}
 
--- "naming a context only as 0 or as an earlier answer of its own": by its place, from 0 on, in the list of context 0 and those among its answers
+-- "naming a context only as 0 or as an earlier answer of its own": by its place, from 0 on, in the list of 0 and the contexts among its answers; a
+-- place past the end is 0 too
 abbrev pub Name : Type 0
 Name = ℕ
 
@@ -50,7 +50,6 @@ pub data Plain : Type 0 where
   ofSet : SetReply → Plain
   ofSubsets : VerdictReply → Plain
   words : List ℕ → Plain
-  unnamed : Plain  -- the name is of no answer yet: no call is made
 
 -- a subset, and an answer, with contexts of any sort: numbers as the library gives them, sets of stacks as a reader sees them
 pub record Part (C : Type 0) : Type 0 where
@@ -71,7 +70,6 @@ unfoldable pub told : Reply → Got ℕ
 told (Stores.refused n) = refused n
 told (Stores.context c) = context c
 told Stores.done = plain (ofStore Stores.done)
-told Stores.shown = plain (ofStore Stores.shown)
 told (Stores.count n) = plain (ofStore (Stores.count n))
 told (Stores.state r) = plain (ofStore (Stores.state r))
 told (Stores.holds b) = plain (ofStore (Stores.holds b))
@@ -115,14 +113,8 @@ pub record Done : Type 0 where
 abbrev pub leaving : Got ℕ → List ℕ → List ℕ → Done
 leaving g w v = record { got = g; store = w; set = v }
 
-unfoldable pub nth : List ℕ → ℕ → Found
-nth [] k = nowhere
-nth (c ∷ cs) zero = at c
-nth (c ∷ cs) (suc k) = nth cs k
-
--- a call where the name is of a context, and else none
-abbrev pub on : List ℕ → Reader → Name → (ℕ → Done) → Done
-on w R n call = elim (nth (R .names) n) [ at c ↦ call c | nowhere ↦ leaving (plain unnamed) w (R .set) ]
+abbrev pub named : Reader → Name → ℕ
+named R n = getD (R .names) n 0
 
 abbrev pub onStore : Reader → Left → Done
 onStore R x = leaving (told (x .reply)) (x .store) (R .set)
@@ -139,11 +131,11 @@ wordsOnly o = plain (words o)
 
 -- what reader R's call leaves, over the store w
 unfoldable pub step : Lent → List ℕ → Reader → Call → Done
-step L w R (singleton n r) = on w R n (λ c. onStore R (singletonCall w (L .scratch) c r))
-step L w R (merge n k m) = on w R n (λ a. on w R k (λ b. onStore R (mergeCall w (L .scratch) a b m)))
-step L w R (query q n) = on w R n (λ c. onStore R (queryCall q w (L .scratch) c))
+step L w R (singleton n r) = onStore R (singletonCall w (L .scratch) (named R n) r)
+step L w R (merge n k m) = onStore R (mergeCall w (L .scratch) (named R n) (named R k) m)
+step L w R (query q n) = onStore R (queryCall q w (L .scratch) (named R n))
 step L w R (freshSet f) = let x = freshSetCall (R .set) f in leaving (settled (x .0)) w (x .1)
-step L w R (add q a n m r p) = on w R n (λ c. onSet (addCall w (R .set) (L .scratch) (config q a c m r p)))
+step L w R (add q a n m r p) = onSet (addCall w (R .set) (L .scratch) (config q a (named R n) m r p))
 step L w R close = onSet (closeCall w (R .set) (L .scratch))
 step L w R subsets = onSubsets w R (λ o. groups (groupsIn o)) (conflictingAltSubsetsCall w (R .set) (L .scratch) (L .subsets))
 step L w R conflictingAlts = onSubsets w R wordsOnly (conflictingAltsCall w (R .set) (L .scratch) (L .alternatives))

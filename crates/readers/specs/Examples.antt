@@ -13,7 +13,7 @@ use Rattle.encoding.specs.Decide.{fits}
 use Rattle.store.specs.Checks.{unless}
 use Rattle.interning.specs.SingletonCall.{singleS}
 use Rattle.groups.specs.Lists.{which}
-use Rattle.readers.specs.Calls.{Call, singleton, merge, Lent, Sized, context, nth}
+use Rattle.readers.specs.Calls.{Call, singleton, merge, Lent, Sized, context}
 use Rattle.readers.specs.Runs.{see, heard, By, run, only, Roomy}
 use Rattle.readers.specs.Pure.{stateAfter}
 use Rattle.readers.specs.Turns.{pureFrom}
@@ -28,16 +28,16 @@ abbrev calls : List (By Call)
 calls = by 0 (singleton 0 7) ∷ by 1 (singleton 0 8) ∷ by 1 (merge 1 0 false) ∷ []
 
 shared-room : Roomy (pureFrom first (λ j. beginner) calls)
-unfolding pureFrom stateAfter unless see heard nth singleS place placeE intern listed find same tree treeOf fits pool room size mergeS mergeT wild mergeE isMark
+unfolding pureFrom stateAfter unless see heard singleS place placeE intern listed find same tree treeOf fits pool room size mergeS mergeT wild mergeE isMark
 shared-room = (λ e. never (cc), (λ e. never (cc), (λ e. never (cc), tt)))
 
 alone-room : Roomy (pureFrom first (λ j. beginner) (only 1 calls))
-unfolding pureFrom which stateAfter unless see heard nth singleS place placeE intern listed find same tree treeOf fits pool room size mergeS mergeT wild mergeE isMark
+unfolding pureFrom which stateAfter unless see heard singleS place placeE intern listed find same tree treeOf fits pool room size mergeS mergeT wild mergeE isMark
 alone-room = (λ e. never (cc), (λ e. never (cc), tt))
 
 -- The second reader's first context is 2 beside the first reader, and 1 alone.
 numbers-differ : (after (after first beginner (singleton 0 7) .store) beginner (singleton 0 8) .got ≡ context 2) × (after first beginner (singleton 0 8) .got ≡ context 1)
-unfolding stateAfter unless nth singleS place placeE intern listed find same tree treeOf fits pool room size
+unfolding stateAfter unless singleS place placeE intern listed find same tree treeOf fits pool room size
 numbers-differ = (refl, refl)
 
 -- What it sees is the same.

@@ -5,7 +5,7 @@ use mathlib.Core.List.{List, [], _∷_}
 use Prim.Native.Nat.{ℕ, _<_, _≤_}
 use native.Mathlib.Omega.{arith}
 use lib.Dec.{eqb, ltb, leb}
-use lib.ListN.{length}
+use lib.ListN.{length, getD}
 use borrow.Author.Tests.{le-leb, ltb-true, leb-false, not-false}
 use Rattle.cases.specs.Bools.{bool?, never-both, and-left, and-right}
 use Rattle.cases.specs.Numbers.{below?}
@@ -39,8 +39,8 @@ use Rattle.sets.specs.Sound.{good-known}
 use Rattle.sets.specs.Kept.{good-more, good-inserted, good-joined}
 use Rattle.configs.specs.Adds.{add-joined, add-new}
 use Rattle.readers.specs.Calls.{Name, Call, singleton, merge, query, freshSet, add, close, subsets, conflictingAlts, uniqueAlt, singleViableAlt}
-use Rattle.readers.specs.Calls.{allSubsetsConflict, allSubsetsEqual, verdict, Got, nth, plain, unnamed}
-use Rattle.readers.specs.Pure.{State, to, halt, calling, singletonTo, mergeTo, addChecksOf, additionTo, verdictTo, stateAfter}
+use Rattle.readers.specs.Calls.{allSubsetsConflict, allSubsetsEqual, verdict, Got}
+use Rattle.readers.specs.Pure.{State, to, halt, singletonTo, mergeTo, addChecksOf, additionTo, verdictTo, stateAfter}
 
 -- ---- what is made
 
@@ -97,7 +97,7 @@ pub record After (s : Store) (D : State) : Type 0 where
 
 -- what may be named is in the store
 abbrev pub Known : Store → List ℕ → Type 0
-Known s cs = (n : Name) (c : ℕ) → nth cs n ≡ at c → c < length s
+Known s cs = (n : Name) → getD cs n 0 < length s
 
 module _ (s : Store) (S : Set) (good : Good s S) where
   stays : (g : Got ℕ) → After s (to g s S)
@@ -169,24 +169,17 @@ module _ (s : Store) (S : Set) (good : Good s S) where
 
   -- ---- each call
 
-  named-after : (o : Found) (f : ℕ → State) → ((c : ℕ) → o ≡ at c → After s (f c)) → After s (calling (to (plain unnamed) s S) o f)
-  named-after (at c) f h = h c refl
-  named-after nowhere f h = stays _
-
   module _ (cs : List ℕ) (known : Known s cs) where
-    asked-after : (n : Name) (f : ℕ → Got ℕ) → After s (calling (to (plain unnamed) s S) (nth cs n) (λ c. to (f c) s S))
-    asked-after n f = named-after (nth cs n) _ (λ c e. stays _)
-
     pub step-after : (x : Call) → After s (stateAfter s S cs x)
     unfolding stateAfter goodSet all distinct
-    step-after (singleton n r) =
-        named-after (nth cs n) _ (λ c e. checked _ _ (λ ok. made _ (singleS s c r) _ (single-makes s (good .store) r c (known n c e) (ok .0)) (ok .1 .0)))
+    step-after (singleton n r) = let c = getD cs n 0 in checked _ _ (λ ok. made _ (singleS s c r) _ (single-makes s (good .store) r c (known n) (ok .0)) (ok .1 .0))
     step-after (merge n k m) =
-        named-after (nth cs n) _ (λ a e. named-after (nth cs k) _ (λ b q.
-        checked _ _ (λ ok. made _ (mergeS m s a b) _ (merge-makes s (good .store) m a b (known n a e) (known k b q)) (ok .0))))
-    step-after (query q n) = asked-after n _
+        let a = getD cs n 0 in
+        let b = getD cs k 0 in
+        checked _ _ (λ ok. made _ (mergeS m s a b) _ (merge-makes s (good .store) m a b (known n) (known k)) (ok .0))
+    step-after (query q n) = stays _
     step-after (freshSet f) = record { good = record { store = good .store; set = refl }; grew = grew-refl s }
-    step-after (add q a n m r p) = named-after (nth cs n) _ (λ c e. addition-after (config q a c m r p) (known n c e))
+    step-after (add q a n m r p) = addition-after (config q a (getD cs n 0) m r p) (known n)
     step-after close = record { good = record { store = good .store; set = good .set }; grew = grew-refl s }
     step-after subsets = stays _
     step-after conflictingAlts = stays _

@@ -11,7 +11,7 @@ use borrow.Author.Tests.{eq-eqb, ne-eqb, lt-ltb, not-false}
 use Rattle.cases.specs.Bools.{bool?, both-true}
 use Rattle.cases.specs.Numbers.{two}
 use Rattle.words.specs.Names.{emptyMark}
-use Rattle.arena.specs.Store.{Store, Found, at, nowhere}
+use Rattle.arena.specs.Store.{Store}
 use Rattle.arena.specs.Place.{mergeS}
 use Rattle.layout.specs.Layout.{storeWords, scratchWords, stop, count as contexts}
 use Rattle.layout.specs.Decode.{storeOf}
@@ -47,8 +47,8 @@ use Rattle.verdicts.specs.Calls as Verdicts
 use Rattle.verdicts.specs.Calls.{VerdictReply, VerdictLeft, mostStops, conflictingAltSubsetsCall, conflictingAltsCall, uniqueAltCall, singleViableAltCall, allSubsetsConflictCall}
 use Rattle.verdicts.specs.Calls.{allSubsetsEqualCall, verdictCall}
 use Rattle.readers.specs.Calls.{Name, Call, singleton, merge, query, freshSet, add, close, subsets, conflictingAlts, uniqueAlt, singleViableAlt}
-use Rattle.readers.specs.Calls.{allSubsetsConflict, allSubsetsEqual, verdict, Lent, Sized, ofSet, ofSubsets, words, unnamed, Part, part, Got, refused, context, groups, plain, told}
-use Rattle.readers.specs.Calls.{settled, judged, groupsFrom, groupsIn, Done, leaving, Reader, nth, onStore, onSet, onSubsets, wordsOnly, step}
+use Rattle.readers.specs.Calls.{allSubsetsConflict, allSubsetsEqual, verdict, Lent, Sized, ofSet, ofSubsets, words, Part, part, Got, refused, context, groups, plain, told}
+use Rattle.readers.specs.Calls.{settled, judged, groupsFrom, groupsIn, Done, leaving, Reader, onStore, onSet, onSubsets, wordsOnly, step}
 
 -- ---- a call over a store and a set
 
@@ -63,10 +63,6 @@ to g s S = record { got = g; store = s; set = S }
 
 abbrev pub halt : Store → Set → ℕ → State
 halt s S n = to (refused n) s S
-
--- a call where the name is of a context, and else none
-abbrev pub calling : {A : Type 0} → A → Found → (ℕ → A) → A
-calling otherwise o call = elim o [ at c ↦ call c | nowhere ↦ otherwise ]
 
 -- a subset as a reader gets it
 abbrev pub partOf : Group → Part ℕ
@@ -96,11 +92,11 @@ verdictTo s S stops =
     unless (given 10 (ltb mostStops (length stops)) ∷ []) (halt s S) (to (plain (ofSubsets (Verdicts.says (Answers.verdict stops (S .configs))))) s S)
 
 unfoldable pub stateAfter : Store → Set → List ℕ → Call → State
-stateAfter s S cs (singleton n r) = calling (to (plain unnamed) s S) (nth cs n) (singletonTo s S r)
-stateAfter s S cs (merge n k m) = calling (to (plain unnamed) s S) (nth cs n) (λ a. calling (to (plain unnamed) s S) (nth cs k) (mergeTo s S m a))
-stateAfter s S cs (query q n) = calling (to (plain unnamed) s S) (nth cs n) (λ c. to (told (answerTo q s c)) s S)
+stateAfter s S cs (singleton n r) = singletonTo s S r (getD cs n 0)
+stateAfter s S cs (merge n k m) = mergeTo s S m (getD cs n 0) (getD cs k 0)
+stateAfter s S cs (query q n) = to (told (answerTo q s (getD cs n 0))) s S
 stateAfter s S cs (freshSet f) = to (plain (ofSet Sets.done)) s (emptySet f)
-stateAfter s S cs (add q a n m r p) = calling (to (plain unnamed) s S) (nth cs n) (λ c. additionTo s S (config q a c m r p))
+stateAfter s S cs (add q a n m r p) = additionTo s S (config q a (getD cs n 0) m r p)
 stateAfter s S cs close = to (plain (ofSet Sets.done)) s (closedSet S)
 stateAfter s S cs subsets = to (groups (map partOf (Grouped.groups (S .configs)))) s S
 stateAfter s S cs conflictingAlts = to (plain (words (altsWords (S .configs)))) s S
@@ -293,27 +289,18 @@ module _ (s : Store) (g : GoodStore s) (S : Set) (good : goodSet (length s) S �
 
   -- ---- each call
 
-  abbrev unnamedTo : State
-  unnamedTo = to (plain unnamed) s S
-
-  on-is : (o : Found) (f : ℕ → Done) (h : ℕ → State) → ((c : ℕ) → o ≡ at c → f c ≡ wordsAfter (h c)) → calling (wordsAfter unnamedTo) o f ≡ wordsAfter (calling unnamedTo o h)
-  on-is (at c) f h e = e c refl
-  on-is nowhere f h e = refl
-
-  module _ (cs : List ℕ) (known : (n : Name) (c : ℕ) → nth cs n ≡ at c → c < length s) where
-    query-is : (n : Name) (f : List ℕ → ℕ → Reply) (h : ℕ → Reply) → ((c : ℕ) → f w c ≡ h c)
-        → calling (wordsAfter unnamedTo) (nth cs n) (λ c. onStore (reader []) (Stores.asked w z c (f w c))) ≡ wordsAfter (calling unnamedTo (nth cs n) (λ c. to (told (h c)) s S))
-    query-is n f h e = on-is (nth cs n) _ _ (λ c q. ap (λ (r : Reply). onStore (reader []) (Stores.asked w z c r)) (e c) ∙ asked-is c (h c) (known n c q))
+  module _ (cs : List ℕ) (known : (n : Name) → getD cs n 0 < length s) where
+    query-is : (c : ℕ) (f : List ℕ → Reply) (h : Reply) → c < length s → f w ≡ h → onStore (reader []) (Stores.asked w z c (f w)) ≡ wordsAfter (to (told h) s S)
+    query-is c f h l e = ap (λ (r : Reply). onStore (reader []) (Stores.asked w z c r)) e ∙ asked-is c h l
 
     -- A call over sound words answers and leaves what it does over the store and the set that they hold.
     pub step-is : (x : Call) → step L w (reader cs) x ≡ wordsAfter (stateAfter s S cs x)
     unfolding step stateAfter judged unless uniqueAltCall singleViableAltCall allSubsetsConflictCall allSubsetsEqualCall verdictCall
-    step-is (singleton n r) = on-is (nth cs n) _ _ (λ c e. singleton-is r c (known n c e))
-    step-is (merge n k m) =
-        on-is (nth cs n) _ (λ a. calling unnamedTo (nth cs k) (mergeTo s S m a)) (λ a e. on-is (nth cs k) _ _ (λ b q. merge-is m a b (known n a e) (known k b q)))
-    step-is (query q n) = query-is n (λ u c. answerTo q (storeOf u) c) _ (λ c. rw (store-of-words s g))
+    step-is (singleton n r) = singleton-is r (getD cs n 0) (known n)
+    step-is (merge n k m) = merge-is m (getD cs n 0) (getD cs k 0) (known n) (known k)
+    step-is (query q n) = query-is (getD cs n 0) (λ u. answerTo q (storeOf u) (getD cs n 0)) _ (known n) (rw (store-of-words s g))
     step-is (freshSet f) = fresh-is f
-    step-is (add q a n m r p) = on-is (nth cs n) _ _ (λ c e. add-is (config q a c m r p))
+    step-is (add q a n m r p) = add-is (config q a (getD cs n 0) m r p)
     step-is close = close-is
     step-is subsets = subsets-is
     step-is conflictingAlts = alts-is

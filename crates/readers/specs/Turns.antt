@@ -10,9 +10,8 @@ use borrow.Author.Tests.{eq-eqb, ne-eqb}
 use Rattle.cases.specs.Numbers.{two}
 use Rattle.stacks.specs.Forest.{Forest, mem}
 use Rattle.stacks.specs.Rules.{Stacks}
-use Rattle.arena.specs.Store.{Store, Found, at}
+use Rattle.arena.specs.Store.{Store}
 use Rattle.arena.specs.Stands.{stands}
-use Rattle.arena.specs.Trees.{at-inj, at-nowhere}
 use Rattle.arena.specs.Placed.{Grew, grew-refl, grew-length}
 use Rattle.encoding.specs.Good.{GoodStore}
 use Rattle.sets.specs.Sets.{Set}
@@ -22,7 +21,7 @@ use Rattle.readers.specs.Calls.{Call, Part, part, Got, refused}
 use Rattle.readers.specs.Runs.{see, heard, By, put, only, Roomy}
 use Rattle.readers.specs.Pure.{State}
 use Rattle.readers.specs.Kept.{Good, After, Known, step-after}
-use Rattle.readers.specs.Alike.{each-append, each-wider, each-same, Founds, both, neither, Parts, parts, Gots, refusals, contexts, grouped, plains, sets-wider, nth-alike, heard-alike}
+use Rattle.readers.specs.Alike.{each-append, each-wider, each-same, Parts, parts, Gots, refusals, contexts, grouped, plains, sets-wider, named-alike, heard-alike}
 use Rattle.readers.specs.Twins.{Like, like-grew, Alike, Room, Own, Both, after, step-kept}
 
 -- ---- what is alike is seen as the same
@@ -82,20 +81,12 @@ put-same f k a j e = rw (eq-eqb j k e, put)
 pub put-other : {A : Type 0} (f : ℕ → A) (k : ℕ) (a : A) (j : ℕ) → (j ≡ k → ⊥) → put f k a j ≡ f j
 put-other f k a j n = rw (ne-eqb j k n, put)
 
-founds-left : (s t : Store) {o p : Found} → Founds (Like s t) o p → (c : ℕ) → o ≡ at c → c < length s
-founds-left s t (both {c = a} r) c e = rw (← at-inj a c e) (r .left)
-founds-left s t neither c e = absurd (at-nowhere c (sym e))
-
-founds-right : (s t : Store) {o p : Found} → Founds (Like s t) o p → (c : ℕ) → p ≡ at c → c < length t
-founds-right s t (both {d = a} r) c e = rw (← at-inj a c e) (r .right)
-founds-right s t neither c e = absurd (at-nowhere c (sym e))
-
 module _ (s t : Store) (P Q : Own) (h : Both s t P Q) where
   pub known-left : Known s (P .names)
-  known-left k c e = founds-left s t (nth-alike (Like s t) k (h .names)) c e
+  known-left k = named-alike (Like s t) k (h .zeros) (h .names) .left
 
   known-right : Known t (Q .names)
-  known-right k c e = founds-right s t (nth-alike (Like s t) k (h .names)) c e
+  known-right k = named-alike (Like s t) k (h .zeros) (h .names) .right
 
   pub after-left : (x : Call) → After s (after s P x)
   after-left x = step-after s (P .set) (h .left) (P .names) known-left x

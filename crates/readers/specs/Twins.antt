@@ -7,7 +7,7 @@ use mathlib.Core.List.{List, [], _∷_, _++_, map}
 use Prim.Native.Nat.{ℕ, zero, suc, _<_}
 use native.Mathlib.Omega.{arith}
 use lib.Dec.{eqb, ltb, leb}
-use lib.ListN.{length}
+use lib.ListN.{length, getD}
 use borrow.Author.Tests.{eq-eqb, ne-eqb, lt-ltb}
 use Rattle.cases.specs.Numbers.{two, never}
 use Rattle.words.specs.Names.{emptyMark}
@@ -41,11 +41,11 @@ use Rattle.outputs.specs.Outputs.{altsLength, padded, altsWords}
 use Rattle.verdicts.specs.Calls as Verdicts
 use Rattle.verdicts.specs.Calls.{mostStops}
 use Rattle.readers.specs.Calls.{Name, Call, singleton, merge, query, freshSet, add, close, subsets, conflictingAlts, uniqueAlt}
-use Rattle.readers.specs.Calls.{singleViableAlt, allSubsetsConflict, allSubsetsEqual, verdict, ofStore, ofSet, ofSubsets, words, unnamed, Got, refused, context, groups, plain, told}
-use Rattle.readers.specs.Calls.{nth}
-use Rattle.readers.specs.Pure.{State, to, halt, calling, partOf, singletonTo, mergeTo, addChecksOf, additionTo, verdictTo, stateAfter}
+use Rattle.readers.specs.Calls.{singleViableAlt, allSubsetsConflict, allSubsetsEqual, verdict, ofStore, ofSet, ofSubsets, words, Got, refused, context, groups, plain, told}
+use Rattle.readers.specs.Pure.{State, to, halt, partOf, singletonTo, mergeTo, addChecksOf, additionTo, verdictTo, stateAfter}
 use Rattle.readers.specs.Kept.{Makes, singleT, single-makes, merge-makes, Good, Known, held-known, found?}
-use Rattle.readers.specs.Alike.{each-append, each-wider, Founds, both, neither, Sets, set, Gots, refusals, contexts, grouped, plains, configs-wider, sets-wider, nth-alike, parts-alike}
+use Rattle.readers.specs.Alike as Names
+use Rattle.readers.specs.Alike.{each-append, each-wider, Founds, both, neither, Sets, set, Gots, refusals, contexts, grouped, plains, configs-wider, sets-wider, parts-alike}
 use Rattle.readers.specs.Alike.{held-alike, join-alike, full-alike}
 
 -- ---- numbers that stand for the same stacks, each in its store
@@ -132,11 +132,6 @@ module _ (s t : Store) {S T : Set} (w : Good s S) (v : Good t T) (l : Sets (Like
   -- where the store stays
   stay : {p q : Got ℕ} → Gots (Like s t) p q → Keeps (to p s S) (to q t T)
   stay g a b = record { gots = g; sets = l }
-
-  named-kept : {o p : Found} (f g : ℕ → State) → Founds (Like s t) o p → ((c d : ℕ) → Like s t c d → Keeps (f c) (g d))
-      → Keeps (calling (to (plain unnamed) s S) o f) (calling (to (plain unnamed) t T) p g)
-  named-kept f g (both {c} {d} r) h = h c d r
-  named-kept f g neither h = stay (plains unnamed)
 
   -- ---- checks
 
@@ -303,19 +298,8 @@ abbrev pub after : Store → Own → Call → State
 after s P x = stateAfter s (P .set) (P .names) x
 
 module _ (s t : Store) (P Q : Own) (h : Both s t P Q) where
-  named-alike : (n : Name) → Founds (Like s t) (nth (P .names) n) (nth (Q .names) n)
-  named-alike n = nth-alike (Like s t) n (h .names)
-
-  -- a call on a named context
-  naming : (n : Name) (f g : ℕ → State) → ((c d : ℕ) → Like s t c d → Keeps (f c) (g d))
-      → Keeps (calling (to (plain unnamed) s (P .set)) (nth (P .names) n) f) (calling (to (plain unnamed) t (Q .set)) (nth (Q .names) n) g)
-  naming n f g = named-kept s t (h .left) (h .right) (h .sets) f g (named-alike n)
-
-  -- a query of it
-  asking : (n : Name) (f g : ℕ → Got ℕ) → ((c d : ℕ) → Like s t c d → Gots (Like s t) (f c) (g d))
-      → Keeps (calling (to (plain unnamed) s (P .set)) (nth (P .names) n) (λ c. to (f c) s (P .set)))
-      (calling (to (plain unnamed) t (Q .set)) (nth (Q .names) n) (λ d. to (g d) t (Q .set)))
-  asking n f g k = naming n _ _ (λ c d r. stay s t (h .left) (h .right) (h .sets) (k c d r))
+  named-alike : (n : Name) → Like s t (getD (P .names) n 0) (getD (Q .names) n 0)
+  named-alike n = Names.named-alike (Like s t) n (h .zeros) (h .names)
 
   told-same : (a b : Stores.Reply) → a ≡ b → Gots (Like s t) (told a) (told a) → Gots (Like s t) (told a) (told b)
   told-same a b e g = rw (← e) g
@@ -339,14 +323,13 @@ module _ (s t : Store) (P Q : Own) (h : Both s t P Q) where
   -- Each call, if it lacks room in both stores or in neither, answers and leaves what is alike.
   pub step-kept : (x : Call) → Keeps (after s P x) (after t Q x)
   unfolding stateAfter told
-  step-kept (singleton n r) = naming n _ _ (λ c d. singleton-kept s t (h .left) (h .right) (h .sets) r c d)
-  step-kept (merge n k m) = naming n _ _ (λ a a′ p. naming k _ _ (λ b b′ q. merge-kept s t (h .left) (h .right) (h .sets) m a b a′ b′ p q))
-  step-kept (query q n) = asking n _ _ (query-alike q)
+  step-kept (singleton n r) = singleton-kept s t (h .left) (h .right) (h .sets) r _ _ (named-alike n)
+  step-kept (merge n k m) = merge-kept s t (h .left) (h .right) (h .sets) m _ _ _ _ (named-alike n) (named-alike k)
+  step-kept (query q n) = stay s t (h .left) (h .right) (h .sets) (query-alike q _ _ (named-alike n))
   step-kept (freshSet f) = λ a b. record { gots = plains _; sets = set (emptySet f) Renamed.none }
   step-kept (add q a n m r p) =
-      owning (λ S. calling (to (plain unnamed) s S) (nth (P .names) n) (λ c. additionTo s S (config q a c m r p)))
-      (λ T. calling (to (plain unnamed) t T) (nth (Q .names) n) (λ c. additionTo t T (config q a c m r p)))
-      (λ S ys w v l. named-kept s t w v (set S l) _ _ (named-alike n) (λ c d k. add-kept s t S w v l (config q a c m r p) d k))
+      owning (λ S. additionTo s S (config q a (getD (P .names) n 0) m r p)) (λ T. additionTo t T (config q a (getD (Q .names) n 0) m r p))
+      (λ S ys w v l. add-kept s t S w v l (config q a (getD (P .names) n 0) m r p) (getD (Q .names) n 0) (named-alike n))
   step-kept close =
       owning (λ S. to (plain (ofSet SetCalls.done)) s (closedSet S)) (λ T. to (plain (ofSet SetCalls.done)) t (closedSet T))
       (λ S ys w v l a b. record { gots = plains _; sets = set (closedSet S) l })

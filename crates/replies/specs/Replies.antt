@@ -9,7 +9,7 @@ use Rattle.arena.specs.Store.{nodeAt}
 use Rattle.layout.specs.Layout.{scratchWords, blank}
 use Rattle.layout.specs.Decode.{storeOf}
 use Rattle.store.specs.Checks.{given, unless}
-use Rattle.store.specs.Calls.{Reply, refused, done, shown, context, count, state, holds, none, Left, zeros, asked}
+use Rattle.store.specs.Calls.{Reply, refused, done, context, count, state, holds, none, Left, zeros, asked}
 use Rattle.sets.specs.Calls.{SetReply, added, SetLeft, setLeft, freshSetCall, addCall, closeCall}
 use Rattle.sets.specs.Calls.{refused as setRefused, done as setDone}
 use Rattle.verdicts.specs.Calls.{VerdictReply, says, alternative, written, summary, because, VerdictLeft, mostStops}
@@ -41,12 +41,11 @@ wiped z = elim (eqb (length z) scratchWords) [ true ↦ zeros | false ↦ z ]
 
 -- ---- calls on contexts
 
--- the line of a reply; `shown` prints the bytes given
+-- the line of a reply; `done` prints the bytes given
 unfoldable pub lineOf : List ℕ → Reply → List ℕ
 lineOf e (refused n) = refusalLine n
-lineOf e shown = e
+lineOf e done = e
 lineOf e (context c) = contextLine c
-lineOf e done = []
 lineOf e (count n) = []
 lineOf e (state r) = []
 lineOf e (holds b) = []
@@ -110,5 +109,5 @@ callOf l (newSet m) = onSet l newSetLine (newSetCall (l .store) (l .set) (l .scr
 callOf l (add x) = onSet l [] (addCall (l .store) (l .set) (l .scratch) x)
 callOf l (stops xs) = let x = stopsCall (l .stops) xs in record { reply = x .0; words = lent (l .store) (l .set) (x .1) (wiped (l .scratch)) }
 callOf l verdict = onVerdict l (figuresCall (l .store) (l .set) (l .scratch) (heldStops (l .stops)))
-callOf l (show c) = onStore l (entriesLine (nodeAt (storeOf (l .store)) c)) (asked (l .store) (l .scratch) c shown)
+callOf l (show c) = onStore l (entriesLine (nodeAt (storeOf (l .store)) c)) (asked (l .store) (l .scratch) c done)
 callOf l close = onSet l closedLine (closeCall (l .store) (l .set) (l .scratch))

@@ -6,7 +6,8 @@ use Prim.Native.Nat.{ℕ, _<_}
 use lib.Dec.{eqb}
 use lib.ListN.{length}
 use Rattle.words.specs.Names.{emptyMark}
-use Rattle.stacks.specs.Forest.{Forest, none, mark, over, Some, Canon}
+use Rattle.stacks.specs.Forest.{Forest, none, mark, over}
+use Rattle.stacks.specs.Canon.{Some, Canon}
 use Rattle.stacks.specs.Beneath.{ext}
 use Rattle.stacks.specs.Merge.{mergeT}
 use Rattle.arena.specs.Soundness.{Sound}

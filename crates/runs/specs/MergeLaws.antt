@@ -8,7 +8,8 @@ use lib.Dec.{eqb}
 use lib.ListN.{length}
 use Rattle.cases.specs.Bools.{bool?}
 use Rattle.words.specs.Names.{emptyMark}
-use Rattle.stacks.specs.Forest.{Forest, none, mark, over, mem, Some, Canon}
+use Rattle.stacks.specs.Forest.{Forest, none, mark, over, mem}
+use Rattle.stacks.specs.Canon.{Some, Canon}
 use Rattle.stacks.specs.Beneath.{first, mem-first}
 use Rattle.stacks.specs.Merge.{isMark, wild, mergeE, mergeT}
 use Rattle.stacks.specs.Merge.Laws.{merge-equal, mergeT-plain, mark-mergeT, mergeT-mark}
@@ -92,13 +93,13 @@ module _ {w v : List ℕ} {es : List Event} (l : length w ≡ storeWords) (t : s
 -- ---- nothing is neutral in a full merge
 
 -- a set of stacks that has a stack, but not all of F's
-other-set : (F : Forest) → Canon F → Some F → (G : Forest) × Canon G × Some G × ((σ : List ℕ) × (mem G σ ≡ false) × (mem F σ ≡ true))
+other-set : (F : Forest) → Canon F → Some F → (G : Forest) × ((ρ : List ℕ) × (mem G ρ ≡ true)) × ((σ : List ℕ) × (mem G σ ≡ false) × (mem F σ ≡ true))
 unfolding mem first
 other-set none v h = absurd h
-other-set mark v h = (over 0 mark none, (omega arith, tt, tt, tt), tt, ([], refl, refl))
-other-set (over r b t) v h = (mark, tt, tt, (first (over r b t), refl, mem-first 0 (over r b t) v h))
+other-set mark v h = (over 0 mark none, (0 ∷ [], refl), ([], refl, refl))
+other-set (over r b t) v h = (mark, ([], refl), (first (over r b t), refl, mem-first 0 (over r b t) v h))
 
 -- For every context there is a set of stacks, in this store or not, that a union with it changes.
 pub none-neutral : (w : List ℕ) → length w ≡ storeWords → sound w ≡ true → (c : ℕ) → c < contexts w
-    → (G : Forest) × Canon G × Some G × ((σ : List ℕ) × (mem G σ ≡ false) × (stands (storeOf w) c σ ≡ true))
+    → (G : Forest) × ((ρ : List ℕ) × (mem G ρ ≡ true)) × ((σ : List ℕ) × (mem G σ ≡ false) × (stands (storeOf w) c σ ≡ true))
 none-neutral w l t c h = let k = canon (record { sized = l; sound = t }) c h in other-set (tree (storeOf w) c) (k .1) (k .0)

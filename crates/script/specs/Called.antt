@@ -9,7 +9,7 @@ use Rattle.words.specs.declared.names.ContextId.{ContextId}
 use Rattle.words.specs.declared.names.ReturnState.{ReturnState}
 use Rattle.arena.specs.Store.{nodeAt}
 use Rattle.layout.specs.Decode.{storeOf}
-use Rattle.store.specs.Calls.{shown, asked}
+use Rattle.store.specs.Calls.{done, asked}
 use Rattle.sets.specs.Calls.{addCall, closeCall}
 use Rattle.setcheck.specs.Configs.{configOf}
 use Rattle.setcheck.specs.declared.config.AtnConfig.{AtnConfig}
@@ -47,7 +47,7 @@ module _ (b s w v t z : List ℕ) (x : Record) (r : ℕ) (u : List ℕ) where
   call-merge p q m e w′ z′ k = rw e (on-store b [] _ r u w′ v t z′ (lent w v t z) k refl refl)
 
   pub call-show : (p : ContextId) → x ≡ Show p → (z′ : List ℕ)
-      → Replied b (entriesLine (nodeAt (storeOf w) (p .0))) (asked w z (p .0) shown) r u w z′ → Answered b (callOf (lent w v t z) (callIn s x)) r u (lent w v t z′)
+      → Replied b (entriesLine (nodeAt (storeOf w) (p .0))) (asked w z (p .0) done) r u w z′ → Answered b (callOf (lent w v t z) (callIn s x)) r u (lent w v t z′)
   unfolding callOf
   call-show p e z′ k = rw e (on-store b (entriesLine (nodeAt (storeOf w) (p .0))) _ r u w v t z′ (lent w v t z) k refl refl)
 

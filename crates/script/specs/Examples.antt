@@ -13,7 +13,7 @@ use Rattle.layout.specs.Layout.{blank, count, used, kind, first, second, parent
 use Rattle.layout.specs.Listing.{listing}
 use Rattle.layout.specs.Decode.{nodeFrom, nodeIn, storeIn}
 use Rattle.layout.specs.Encode.{putPool, fill, putRecord, putCounts, putNode, written, wordsOf}
-use Rattle.encoding.specs.Decide.{sameWords, rises, isNowhere, soundStore, fits, goodStore, sound}
+use Rattle.encoding.specs.Decide.{sameWords, rises, soundStore, fits, sound}
 use Rattle.store.specs.Checks.{unless}
 use Rattle.store.specs.Calls.{zeros, refusal, asked}
 use Rattle.interning.specs.SingletonCall.{singleS, singletonChecks, singletonCall}
@@ -51,7 +51,7 @@ unfolding blank count used kind first second parent state listing nodeFrom nodeI
 words = tt
 
 unfoldable checks : Unit {0}
-unfolding sameWords rises isNowhere soundStore fits goodStore sound zeros refusal unless asked
+unfolding sameWords rises soundStore fits sound zeros refusal unless asked
 checks = tt
 
 unfoldable configs : Unit {0}

@@ -1,26 +1,30 @@
 -- Document 01's refusals of the calls on a set: each exactly when it is due, and what it leaves. Nothing here has to be believed.
 use mathlib.Core.Path.{_≡_, refl, sym, ap, _∙_}
 use mathlib.Core.Logic.{_↔_}
-use mathlib.Core.Bool.{Bool, true, not}
+use mathlib.Core.Bool.{Bool, true, not, _&&_}
 use mathlib.Core.List.{List, []}
-use Prim.Native.Nat.{ℕ}
+use Prim.Native.Nat.{ℕ, _<_}
 use native.Mathlib.Omega.{arith}
-use lib.Dec.{eqb}
+use lib.Dec.{eqb, leb}
 use lib.ListN.{length}
-use borrow.Author.Tests.{eq-eqb, ne-eqb, eqb-true, not-false}
+use borrow.Author.Tests.{eq-eqb, ne-eqb, eqb-true, leb-true, le-leb, not-true, not-false}
 use Rattle.cases.specs.Numbers.{two}
 use Rattle.layout.specs.Layout.{storeWords, scratchWords, count as contexts}
 use Rattle.layout.specs.Sound.{SoundWords}
 use Rattle.encoding.specs.Decide.Laws.{sound-true, true-sound}
 use Rattle.store.specs.Calls.{zeros}
 use Rattle.sets.specs.Config.{Config}
-use Rattle.cases.specs.Bools.{both-true, and-left, and-right}
-use Rattle.sets.specs.Layout.{setWordsLength}
-use Rattle.sets.specs.Words.{SoundSet}
+use Rattle.cases.specs.Bools.{never-both, both-true, and-left, and-right}
+use Rattle.sets.specs.Lists.{any}
+use Rattle.sets.specs.Layout.{mostConfigs, setWordsLength, configAt, configCount}
+use Rattle.sets.specs.Sets.{key, sameKey}
+use Rattle.sets.specs.Sets.Laws.{same-of-key, other-key}
+use Rattle.sets.specs.Words.{setOf, SoundSet}
+use Rattle.sets.specs.Listed.{configs-length, any-none, none-any}
 use Rattle.sets.specs.Sound.{sound-set-true, true-sound-set}
 use Rattle.arena.specs.Store.{at}
-use Rattle.store.specs.Checks.{Check, unless, order, inOrder, due}
-use Rattle.store.specs.Checks.Laws.{Clear, due-leaves, refused-due}
+use Rattle.store.specs.Checks.{Check, unless, order, due}
+use Rattle.store.specs.Checks.Laws.{inOrder, Clear, due-leaves, refused-due}
 use Rattle.sets.specs.Calls.{refused, done, added, SetLeft, refusal, lentLengths, lentChecks, addChecks, freshSetCall, addCall, closeCall}
 
 -- ---- what a refusal leaves
@@ -103,6 +107,28 @@ not-added a n e = let z : _≡_ {A = ℕ} 0 1 = cc in omega arith
 
 not-done : (n : ℕ) → done ≡ refused n → ⊥
 not-done n e = let z : _≡_ {A = ℕ} 0 1 = cc in omega arith
+
+-- check 8 in words: "`add` with a new key to a set of 256"
+module _ (k : ℕ) (v : List ℕ) (x : Config) (s : SoundSet k v) where
+  abbrev Full : Type 0
+  Full = ((i : ℕ) → i < configCount v → key (configAt v i) ≡ key x → ⊥) × (configCount v ≡ mostConfigs)
+
+  full-new : (not (any (sameKey x) (setOf v .configs)) && leb mostConfigs (length (setOf v .configs))) ≡ true → Full
+  full-new t =
+      let none = not-true _ (and-left _ (leb mostConfigs (length (setOf v .configs))) t) in
+      let most = leb-true mostConfigs (length (setOf v .configs)) (and-right (not (any (sameKey x) (setOf v .configs))) _ t) in (
+        λ i h q. never-both (same-of-key x (configAt v i) (sym q)) (any-none (sameKey x) v (configCount v) none i h),
+        omega (arith, configs-length v (configCount v), s .counted),
+      )
+
+  new-full : Full → (not (any (sameKey x) (setOf v .configs)) && leb mostConfigs (length (setOf v .configs))) ≡ true
+  new-full f =
+      both-true _ _ (ap not (none-any (sameKey x) v (configCount v) (λ i h. other-key x (configAt v i) (λ q. f .0 i h (sym q)))))
+      (le-leb mostConfigs (length (setOf v .configs)) (omega (arith, configs-length v (configCount v), f .1)))
+
+  pub full-exactly : ((not (any (sameKey x) (setOf v .configs)) && leb mostConfigs (length (setOf v .configs))) ≡ true)
+      ↔ (((i : ℕ) → i < configCount v → key (configAt v i) ≡ key x → ⊥) × (configCount v ≡ mostConfigs))
+  full-exactly = (full-new, new-full)
 
 module _ (w v z : List ℕ) (x : Config) where
   -- 2, 1, 3, 7, 4, 8, 6

@@ -6,7 +6,8 @@ use mathlib.Core.List.{[]}
 use Prim.Native.Nat.{ℕ, suc, _<_}
 use native.Mathlib.Omega.{arith}
 use Rattle.cases.specs.Numbers.{three, two}
-use Rattle.stacks.specs.Forest.{Forest, none, mark, over, mem, Some, From, Canon}
+use Rattle.stacks.specs.Forest.{Forest, none, mark, over, mem}
+use Rattle.stacks.specs.Canon.{Some, From, Canon}
 use Rattle.stacks.specs.Beneath.{under, under-here, under-past, from-le, under-low, under-canon, by-parts, by-under}
 use Rattle.stacks.specs.Merge.{isMark, wild, mergeE, mergeT}
 use Rattle.stacks.specs.Merge.Laws.{merge-less, merge-equal, merge-greater, mergeE-none, none-mergeT, mergeT-none, mark-mergeT, mergeT-mark, mergeT-plain}

@@ -8,7 +8,8 @@ use native.Mathlib.Omega.{arith}
 use lib.Dec.{eqb}
 use borrow.Author.Tests.{eq-eqb, ne-eqb}
 use Rattle.cases.specs.Numbers.{three, two}
-use Rattle.stacks.specs.Forest.{Forest, none, mark, over, mem, Some, From, Canon}
+use Rattle.stacks.specs.Forest.{Forest, none, mark, over, mem}
+use Rattle.stacks.specs.Canon.{Some, From, Canon}
 
 -- the set beneath the top state q; no stacks where q is no top state
 unfoldable pub under : Forest → ℕ → Forest

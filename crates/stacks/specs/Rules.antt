@@ -1,4 +1,4 @@
--- To believe: document 01's sentences on merges, about membership alone.
+-- To believe: document 01's sentences on the wildcard merge, about membership alone. The full-context merge is the union.
 pub mod Laws
 use mathlib.Core.Path.{_≡_}
 use mathlib.Core.Logic.{_⊎_}
@@ -18,16 +18,9 @@ OnlyEmpty A = (A [] ≡ true) × ((x : ℕ) (σ : List ℕ) → A (x ∷ σ) ≡
 abbrev pub beneath : Stacks → ℕ → Stacks
 beneath A x = λ σ. A (x ∷ σ)
 
--- x is a top state of the set, or of no stack of it
+-- x is a top state of the set
 abbrev pub Top : Stacks → ℕ → Type 0
 Top A x = (σ : List ℕ) × (A (x ∷ σ) ≡ true)
-
-abbrev pub NoTop : Stacks → ℕ → Type 0
-NoTop A x = (σ : List ℕ) → A (x ∷ σ) ≡ false
-
--- "Full-context merge: the union."
-abbrev pub FullMerge : Stacks → Stacks → Stacks → Type 0
-FullMerge A B C = (σ : List ℕ) → C σ ≡ (A σ || B σ)
 
 -- "Wildcard merge of A and B" is C
 pub data WildcardMerge : Stacks → Stacks → Stacks → Type 0 where
@@ -38,12 +31,7 @@ pub data WildcardMerge : Stacks → Stacks → Stacks → Type 0 where
   merged : {A B C : Stacks}
       → (OnlyEmpty A ⊎ OnlyEmpty B → ⊥)
       → C [] ≡ (A [] || B [])
-      → ((x : ℕ) → NoTop B x → (σ : List ℕ) → C (x ∷ σ) ≡ A (x ∷ σ))
-      → ((x : ℕ) → NoTop A x → (σ : List ℕ) → C (x ∷ σ) ≡ B (x ∷ σ))
+      → ((x : ℕ) → (Top B x → ⊥) → (σ : List ℕ) → C (x ∷ σ) ≡ A (x ∷ σ))
+      → ((x : ℕ) → (Top A x → ⊥) → (σ : List ℕ) → C (x ∷ σ) ≡ B (x ∷ σ))
       → ((x : ℕ) → Top A x → Top B x → WildcardMerge (beneath A x) (beneath B x) (beneath C x))
       → WildcardMerge A B C
-
--- the rule of the mode: `false` full-context, `true` by wildcard
-abbrev pub MergeRule : Bool → Stacks → Stacks → Stacks → Type 0
-MergeRule false A B C = FullMerge A B C
-MergeRule true A B C = WildcardMerge A B C

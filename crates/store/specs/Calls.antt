@@ -16,7 +16,6 @@ use Rattle.store.specs.Checks.{Check, given, unless}
 pub data Reply : Type 0 where
   refused : ℕ → Reply
   done : Reply
-  shown : Reply
   context : ℕ → Reply
   count : ℕ → Reply
   state : ℕ → Reply

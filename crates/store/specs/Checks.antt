@@ -3,7 +3,6 @@ pub mod Laws
 use mathlib.Core.Bool.{Bool, true, false}
 use mathlib.Core.List.{List, [], _∷_}
 use Prim.Native.Nat.{ℕ}
-use lib.Dec.{eqb}
 use Rattle.arena.specs.Store.{Found, at, nowhere}
 
 -- a refusal's number, and does its reason hold
@@ -22,12 +21,6 @@ unless (c ∷ cs) refuse go = elim (c .holds) [ true ↦ refuse (c .number) | fa
 -- "Refusal numbers, in order of checking"
 abbrev pub order : List ℕ
 order = 2 ∷ 1 ∷ 3 ∷ 10 ∷ 7 ∷ 4 ∷ 5 ∷ 8 ∷ 6 ∷ 9 ∷ []
-
--- the checks' numbers stand in the order ns
-unfoldable pub inOrder : List ℕ → List Check → Bool
-inOrder ns [] = true
-inOrder [] (c ∷ cs) = false
-inOrder (n ∷ ns) (c ∷ cs) = elim (eqb (c .number) n) [ true ↦ inOrder ns cs | false ↦ inOrder ns (c ∷ cs) ]
 
 -- ---- when a refusal is due
 

@@ -17,7 +17,7 @@ use Rattle.arena.specs.Room.{pool}
 use Rattle.layout.specs.Layout.{storeWords, scratchWords, count, used, kind, first, second, parent, state}
 use Rattle.layout.specs.Decode.{nodeIn, storeIn, storeOf}
 use Rattle.layout.specs.Decode.Laws.{store-length, store-node, node-zero}
-use Rattle.layout.specs.Sound.{Parent, ofSingleton, ofEntry, SoundWords}
+use Rattle.layout.specs.Sound.{SoundWords}
 use Rattle.encoding.specs.Reads.{lengths, lengths-zero, single-reads, array-entries, array-fits, kind?, Sized, zeroth, several, lengths-pool-of, first-lengths}
 use Rattle.encoding.specs.Reads.{single as one}
 use Rattle.encoding.specs.Decoded.{store-sound}
@@ -76,10 +76,6 @@ module _ (w z : List ℕ) (q : ℕ) (lw : length w ≡ storeWords) (counts : (1 
   array-good : (c : ℕ) → c < count w → (k : kind w c ≡ 2) → Rattle.recordcheck.specs.Judge.Array w c
   array-good c h k = good-array w c k (record-good c h (λ e. omega arith))
 
-  older : (c x : ℕ) → c < count w → Parent w c x → x < c
-  older c x h (ofSingleton k) = single-good c h k .older
-  older c x h (ofEntry k j l) = array-good c h k .entries .older (first w c + j) (omega arith) (omega arith)
-
   differ : (c d : ℕ) → c < d → d < count w → nodeIn w c ≡ nodeIn w d → ⊥
   differ c d l h s =
       let e : c ≡ d = nodes-differ (storeOf w) (p .records .sound) c d (omega (arith, store-length w (count w))) (omega (arith, store-length w (count w)))
@@ -105,7 +101,8 @@ module _ (w z : List ℕ) (q : ℕ) (lw : length w ≡ storeWords) (counts : (1 
     counted = counts;
     root = r;
     kinds = λ c a h. one-or-two c h (p .good c a h);
-    older = older;
+    older = λ c h k. single-good c h k .older;
+    olderEntries = λ c j h k l. array-good c h k .entries .older (first w c + j) (omega arith) (omega arith);
     single = λ c h k. omega (arith, single-good c h k .small);
     long = λ c h k. array-good c h k .long;
     rise = λ c j h k l.

@@ -9,8 +9,8 @@ use borrow.Author.Tests.{eq-eqb, ne-eqb}
 use Rattle.cases.specs.Numbers.{two}
 use Rattle.arena.specs.Store.{at}
 use Rattle.store.specs.Calls.{zeros}
-use Rattle.store.specs.Checks.{Check, order, inOrder, due}
-use Rattle.store.specs.Checks.Laws.{due-leaves, refused-due}
+use Rattle.store.specs.Checks.{Check, order, due}
+use Rattle.store.specs.Checks.Laws.{inOrder, due-leaves, refused-due}
 use Rattle.sets.specs.Calls.{lentChecks}
 use Rattle.groups.specs.Answers.{Answer}
 use Rattle.outputs.specs.Outputs.{subsetsLength, altsLength}

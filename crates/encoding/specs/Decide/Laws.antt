@@ -1,6 +1,6 @@
 -- The test decides soundness. Nothing here has to be believed.
 use mathlib.Core.Path.{_≡_, refl, sym, ap, subst}
-use mathlib.Core.Bool.{true, false, false≢true}
+use mathlib.Core.Bool.{Bool, true, false, false≢true}
 use mathlib.Core.List.{List, [], _∷_}
 use Prim.Native.Nat.{ℕ, suc}
 use native.Mathlib.Omega.{arith}
@@ -21,7 +21,7 @@ use Rattle.encoding.specs.Good.{GoodStore}
 use Rattle.encoding.specs.Written.{words-length}
 use Rattle.encoding.specs.Encoded.{encoded}
 use Rattle.encoding.specs.Decoded.{decoded}
-use Rattle.encoding.specs.Decide.{sameWords, rises, isNowhere, soundStore, fits, goodStore, sound}
+use Rattle.encoding.specs.Decide.{sameWords, rises, soundStore, fits, sound}
 
 -- ---- each test decides what it says
 
@@ -67,32 +67,30 @@ true-entry end h = absurd h
 true-entry dollar h = refl
 true-entry (push r p n) h = lt-ltb 0 (suc (size n)) (omega arith)
 
-nowhere-true : (f : Found) → isNowhere f ≡ true → f ≡ nowhere
-unfolding isNowhere
-nowhere-true (at c) e = absurd (false≢true e)
-nowhere-true nowhere e = refl
+-- no older record is the same, and the older ones pass
+nowhere-true : (f : Found) (b : Bool) → elim f [ at c ↦ false | nowhere ↦ b ] ≡ true → (f ≡ nowhere) × (b ≡ true)
+nowhere-true (at c) b e = absurd (false≢true e)
+nowhere-true nowhere b e = (refl, e)
 
-true-nowhere : (f : Found) → f ≡ nowhere → isNowhere f ≡ true
-unfolding isNowhere
-true-nowhere f e = ap isNowhere e
+true-nowhere : (f : Found) (b : Bool) → f ≡ nowhere → b ≡ true → elim f [ at c ↦ false | nowhere ↦ b ] ≡ true
+true-nowhere f b e h = rw e h
 
 pub sound-store-true : (s : Store) → soundStore s ≡ true → Sound s × StoreBelow stop s
 unfolding soundStore
 sound-store-true [] e = (tt, tt)
 sound-store-true (n ∷ s) e =
     let f = and-right (rises 0 (length s) n) _ e in
-    let g = and-right (ltb 0 (size n)) _ f in
+    let g = nowhere-true (find n s) (soundStore s) (and-right (ltb 0 (size n)) _ f) in
     let rise = rises-true 0 (length s) n (and-left _ _ e) in
-    let rest = sound-store-true s (and-right (isNowhere (find n s)) _ g) in
-    ((rise .0, entry-true n (and-left _ _ f), nowhere-true (find n s) (and-left _ _ g), rest .0), (rise .1, rest .1))
+    let rest = sound-store-true s (g .1) in
+    ((rise .0, entry-true n (and-left _ _ f), g .0, rest .0), (rise .1, rest .1))
 
 pub true-sound-store : (s : Store) → Sound s → StoreBelow stop s → soundStore s ≡ true
 unfolding soundStore
 true-sound-store [] v b = refl
 true-sound-store (n ∷ s) v b =
     both-true (rises 0 (length s) n) _ (true-rises 0 (length s) n (v .0) (b .0))
-    (both-true (ltb 0 (size n)) _ (true-entry n (v .1))
-    (both-true (isNowhere (find n s)) _ (true-nowhere (find n s) (v .2)) (true-sound-store s (v .3) (b .1))))
+    (both-true (ltb 0 (size n)) _ (true-entry n (v .1)) (true-nowhere (find n s) (soundStore s) (v .2) (true-sound-store s (v .3) (b .1))))
 
 pub fits-true : (s : Store) → fits s ≡ true → Fits s
 unfolding fits
@@ -102,32 +100,26 @@ pub true-fits : (s : Store) → Fits s → fits s ≡ true
 unfolding fits
 true-fits s v = both-true (leb (length s) mostContexts) _ (le-leb _ _ (v .0)) (le-leb _ _ (v .1))
 
-pub good-store-true : (s : Store) → goodStore s ≡ true → GoodStore s
-unfolding goodStore
-good-store-true s e =
-    let f = and-right (soundStore s) _ e in
-    let v = sound-store-true s (and-left _ _ e) in
-    record { sound = v .0; below = v .1; some = ltb-true 0 (length s) (and-left _ _ f); fits = fits-true s (and-right (ltb 0 (length s)) _ f) }
-
-pub true-good-store : (s : Store) → GoodStore s → goodStore s ≡ true
-unfolding goodStore
-true-good-store s g =
-    both-true (soundStore s) _ (true-sound-store s (g .sound) (g .below))
-    (both-true (ltb 0 (length s)) _ (lt-ltb 0 (length s) (g .some)) (true-fits s (g .fits)))
-
 -- ---- the test decides soundness of words
 
 pub sound-true : (w : List ℕ) → length w ≡ storeWords → sound w ≡ true → SoundWords w
 unfolding sound
 sound-true w l e =
     let s : Store = storeOf w in
-    subst SoundWords (sym (same-words w (wordsOf s) (and-right (goodStore s) _ e))) (encoded s (good-store-true s (and-left _ _ e)))
+    let f = and-right (soundStore s) _ e in
+    let g = and-right (ltb 0 (length s)) _ f in
+    let v = sound-store-true s (and-left _ _ e) in
+    let good : GoodStore s = record { sound = v .0; below = v .1; some = ltb-true 0 (length s) (and-left _ _ f); fits = fits-true s (and-left _ _ g) } in
+    subst SoundWords (sym (same-words w (wordsOf s) (and-right (fits s) _ g))) (encoded s good)
 
 pub true-sound : (w : List ℕ) → length w ≡ storeWords → SoundWords w → sound w ≡ true
 unfolding sound
 true-sound w l v =
+    let s : Store = storeOf w in
     let d = decoded w l v in
-    both-true (goodStore (storeOf w)) _ (true-good-store (storeOf w) (d .0)) (subst (λ (u : List ℕ). sameWords w u ≡ true) (d .1) (words-same w))
+    both-true (soundStore s) _ (true-sound-store s (d .0 .sound) (d .0 .below))
+    (both-true (ltb 0 (length s)) _ (lt-ltb 0 (length s) (d .0 .some))
+    (both-true (fits s) _ (true-fits s (d .0 .fits)) (subst (λ (u : List ℕ). sameWords w u ≡ true) (d .1) (words-same w))))
 
 -- the words of a good store pass
 pub words-sound : (s : Store) → GoodStore s → sound (wordsOf s) ≡ true

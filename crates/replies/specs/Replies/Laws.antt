@@ -11,7 +11,7 @@ use Rattle.arena.specs.Store.{nodeAt}
 use Rattle.layout.specs.Layout.{scratchWords}
 use Rattle.layout.specs.Decode.{storeOf}
 use Rattle.store.specs.Admit.{cleared}
-use Rattle.store.specs.Calls.{shown, Left, leaves, asked}
+use Rattle.store.specs.Calls.{done, Left, leaves, asked}
 use Rattle.store.specs.Asks.{Asks}
 use Rattle.store.specs.declared.inner.admit.Admitted.{Admitted}
 use Rattle.store.specs.declared.inner.admit.Admitted.the-variants.{Ready as ready, Refused as notReady}
@@ -38,7 +38,7 @@ module _ (z : List ℕ) where
   unfolding wiped
   wiped-wrong n = rw (ne-eqb (length z) scratchWords n, wiped)
 
--- ---- a call on contexts, which leaves x; `shown` prints e
+-- ---- a call on contexts, which leaves x; `done` prints e
 
 pub record Replied (b e : List ℕ) (x : Left) (r : ℕ) (u w z : List ℕ) : Type 0 where
   pub wrote : Wrote b 0 (lineOf e (x .reply)) r u
@@ -71,11 +71,11 @@ replied-call b x a r u w z e v = rw (← e) (record { wrote = v; store = refl; s
 
 module _ {w z : List ℕ} {c : ℕ} {a : Admitted} {y : List ℕ} (v : Asks w z c a y) (b : List ℕ) (r : ℕ) (u : List ℕ) where
   pub show-refused : (f : Refusal) → a ≡ notReady f → (n : ℕ) → n ≡ number f → Wrote b 0 (numberLine 82 n) r u
-      → Replied b (entriesLine (nodeAt (storeOf w) c)) (asked w z c shown) r u w y
+      → Replied b (entriesLine (nodeAt (storeOf w) c)) (asked w z c done) r u w y
   unfolding lineOf refusalLine
-  show-refused f e n q p = rw (← v .refuses f e shown) (record { wrote = rw q at p; store = refl; scratch = refl })
+  show-refused f e n q p = rw (← v .refuses f e done) (record { wrote = rw q at p; store = refl; scratch = refl })
 
   pub show-done : a ≡ ready → Wrote b 0 (entriesLine (nodeAt (storeOf w) c)) r u
-      → Replied b (entriesLine (nodeAt (storeOf w) c)) (asked w z c shown) r u w y
+      → Replied b (entriesLine (nodeAt (storeOf w) c)) (asked w z c done) r u w y
   unfolding lineOf
-  show-done e p = rw (← v .replies e shown) (record { wrote = p; store = refl; scratch = refl })
+  show-done e p = rw (← v .replies e done) (record { wrote = p; store = refl; scratch = refl })

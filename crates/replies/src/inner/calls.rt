@@ -12,7 +12,7 @@ ghost use mathlib.Core.List.{[]};
 ghost use lib.ListN.{length};
 ghost use Rattle.arena.specs.Store.{nodeAt};
 ghost use Rattle.layout.specs.Decode.{storeOf};
-ghost use Rattle.store.specs.Calls.{asked, shown};
+ghost use Rattle.store.specs.Calls.{asked, done};
 ghost use Rattle.interning.specs.Replies.{numbered};
 ghost use Rattle.interning.specs.SingletonCall.{singletonCall};
 ghost use Rattle.contexts.specs.MergeCall.{mergeCall};
@@ -78,7 +78,7 @@ pub fn merge(
 pub fn show(store: &[u32], scratch: &mut [u32], context: ContextId, out: &mut [u8]) -> usize
     requires { ⌜ length (now out) ≡ lineBytes ⌝ }
     ensures { λ r. ⌜ Replied (now (out .entry)) (entriesLine (nodeAt (storeOf (now (store .entry))) (context .0)))
-        (asked (now (store .entry)) (now (scratch .entry)) (context .0) shown)
+        (asked (now (store .entry)) (now (scratch .entry)) (context .0) done)
         r (now (out .exit)) (now (store .entry)) (now (scratch .exit)) ⌝ }
 {
     let asked = ask(store, scratch, context);

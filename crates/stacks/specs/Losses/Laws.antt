@@ -5,10 +5,11 @@ use mathlib.Core.Bool.{Bool, true, false, _||_, or-true, false≢true}
 use mathlib.Core.List.{List, [], _∷_}
 use Prim.Native.Nat.{ℕ}
 use Rattle.cases.specs.Bools.{bool?, bool-stable, is-false, or-cases}
-use Rattle.stacks.specs.Forest.{Forest, none, mark, over, mem, Some, Canon}
+use Rattle.stacks.specs.Forest.{Forest, none, mark, over, mem}
+use Rattle.stacks.specs.Canon.{Some, Canon}
 use Rattle.stacks.specs.Beneath.{under, under-canon, mem-under, first, mem-first}
-use Rattle.stacks.specs.Rules.{Stacks, OnlyEmpty, beneath, Top, NoTop, WildcardMerge, swallowed, merged}
-use Rattle.stacks.specs.Rules.Laws.{by-tops, beneath-under}
+use Rattle.stacks.specs.Rules.{Stacks, OnlyEmpty, beneath, Top, WildcardMerge, swallowed, merged}
+use Rattle.stacks.specs.Rules.Laws.{NoTop, by-tops, beneath-under}
 use Rattle.stacks.specs.Losses.{BeginsWith, anything, below, goingOn, EndsAt}
 
 -- ---- the sides of the sentences can be exchanged
@@ -94,7 +95,7 @@ left-begun {A} {B} {C} (merged n k l r b) [] e = begun-empty C [] (k ∙ rw e)
 left-begun {A} {B} {C} (merged n k l r b) (x ∷ σ) e =
     bool-stable (begun C (x ∷ σ)) true λ d.
     by-tops A B x
-    (λ t. false≢true (sym (t σ) ∙ e))
+    (λ t. t (σ, e))
     (λ t. d (begun-whole C (x ∷ σ) (l x t σ ∙ e)))
     (λ i j. d (begun-beneath C x σ (left-begun (b x i j) σ e)))
 
@@ -170,7 +171,7 @@ unfolding mem
 tops? F v x = go (some? (under F x))
   where
     go : (under F x ≡ none) ⊎ Some (under F x) → Top (mem F) x ⊎ NoTop (mem F) x
-    go (inl e) = inr (λ σ. mem-under 0 F x σ v ∙ ap (λ (G : Forest). mem G σ) e)
+    go (inl e) = inr (λ t. false≢true (sym (mem-under 0 F x (t .0) v ∙ ap (λ (G : Forest). mem G (t .0)) e) ∙ t .1))
     go (inr h) = inl (first (under F x), mem-under 0 F x _ v ∙ mem-first 0 (under F x) (under-canon 0 F x v) h)
 
 settled : (F : Forest) → Canon F → Settled (mem F)

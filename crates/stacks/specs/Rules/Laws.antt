@@ -4,13 +4,27 @@ use mathlib.Core.Logic.{_⊎_, inl, inr, ⊎-elim}
 use mathlib.Core.Bool.{Bool, true, false, _||_, false≢true}
 use mathlib.Core.List.{List, [], _∷_}
 use Prim.Native.Nat.{ℕ}
-use Rattle.stacks.specs.Forest.{Forest, none, mark, over, mem, Canon}
+use Rattle.stacks.specs.Forest.{Forest, none, mark, over, mem}
+use Rattle.stacks.specs.Canon.{Canon}
 use Rattle.stacks.specs.Beneath.{under, under-canon, mem-under, by-under, first, mem-first, ext}
 use Rattle.stacks.specs.Merge.{isMark, mergeE, mergeT}
 use Rattle.stacks.specs.Merge.Laws.{mergeT-plain, mergeT-full, none-mergeT, mergeT-none, mark-mergeT, mergeT-mark}
 use Rattle.stacks.specs.Algebra.{mark?, under-merge, empty-merge, from-merge, canon-merge}
 use Rattle.cases.specs.Bools.{bool-stable, is-false}
-use Rattle.stacks.specs.Rules.{Stacks, OnlyEmpty, beneath, Top, NoTop, FullMerge, WildcardMerge, swallowed, merged, MergeRule}
+use Rattle.stacks.specs.Rules.{Stacks, OnlyEmpty, beneath, Top, WildcardMerge, swallowed, merged}
+
+-- x is a top state of no stack
+abbrev pub NoTop : Stacks → ℕ → Type 0
+NoTop A x = Top A x → ⊥
+
+-- "Full-context merge: the union."
+abbrev pub FullMerge : Stacks → Stacks → Stacks → Type 0
+FullMerge A B C = (σ : List ℕ) → C σ ≡ (A σ || B σ)
+
+-- the rule of the mode: `false` full-context, `true` by wildcard
+abbrev pub MergeRule : Bool → Stacks → Stacks → Stacks → Type 0
+MergeRule false A B C = FullMerge A B C
+MergeRule true A B C = WildcardMerge A B C
 
 -- ---- the rules leave no choice
 
@@ -35,7 +49,7 @@ is-swallowed (merged n e l r b) k = absurd (n k)
 
 -- x is a top state of both sides, or of one side at most; all but settled: a falsehood follows from each
 pub by-tops : (A B : Stacks) (x : ℕ) → (NoTop A x → ⊥) → (NoTop B x → ⊥) → (Top A x → Top B x → ⊥) → ⊥
-by-tops A B x a b both = a (λ σ. is-false (A (x ∷ σ)) (λ s. b (λ τ. is-false (B (x ∷ τ)) (λ t. both (σ, s) (τ, t)))))
+by-tops A B x a b both = a (λ s. b (λ t. both s t))
 
 -- Any two results of one wildcard merge have the same stacks, whatever the sets are.
 pub wildcard-determined : {A B C : Stacks} → WildcardMerge A B C → (D : Stacks) → WildcardMerge A B D → (σ : List ℕ) → C σ ≡ D σ
@@ -95,7 +109,7 @@ only-mark (over r b t) v n o = false≢true (sym (o .1 r (first b)) ∙ mem-firs
 -- a state that tops no stack has nothing beneath it
 no-top : (F : Forest) (x : ℕ) → Canon F → NoTop (mem F) x → under F x ≡ none
 unfolding mem
-no-top F x v n = ext (under F x) none (under-canon 0 F x v) tt (λ σ. sym (mem-under 0 F x σ v) ∙ n σ)
+no-top F x v n = ext (under F x) none (under-canon 0 F x v) tt (λ σ. sym (mem-under 0 F x σ v) ∙ is-false (mem F (x ∷ σ)) (λ e. n (σ, e)))
 
 -- beneath a state, as sets by their stacks
 pub beneath-under : (F : Forest) (x : ℕ) → Canon F → mem (under F x) ≡ beneath (mem F) x

@@ -1,7 +1,7 @@
 -- A refusal is given exactly when its reason holds and none earlier in the list. Nothing here has to be believed.
 use mathlib.Core.Path.{_≡_, refl, sym, ap, _∙_, subst}
-use mathlib.Core.Bool.{Bool, true, false, not, _&&_}
-use mathlib.Core.List.{List, [], _∷_, _++_}
+use mathlib.Core.Bool.{Bool, true, false, not, _&&_, false≢true}
+use mathlib.Core.List.{List, [], _∷_, _++_, map, Sublistᴰ, Sublistᴰ·slnil, Sublistᴰ·cons, Sublistᴰ·cons-cons}
 use Prim.Native.Nat.{ℕ}
 use lib.Dec.{eqb}
 use borrow.Author.Tests.{eqb-true}
@@ -117,3 +117,22 @@ pub clear-passed {ℓ} : {A : Type ℓ} (refuse : ℕ → A) (go : A) (cs : List
 unfolding unless
 clear-passed refuse go [] v = refl
 clear-passed refuse go (c ∷ cs) v = unless-next refuse go c cs (v .0) ∙ clear-passed refuse go cs (v .1)
+
+-- ---- the order of checking
+
+-- the checks' numbers stand in the order ns
+unfoldable pub inOrder : List ℕ → List Check → Bool
+inOrder ns [] = true
+inOrder [] (c ∷ cs) = false
+inOrder (n ∷ ns) (c ∷ cs) = elim (eqb (c .number) n) [ true ↦ inOrder ns cs | false ↦ inOrder ns (c ∷ cs) ]
+
+-- then they are a sublist of ns
+pub in-order : (ns : List ℕ) (cs : List Check) → inOrder ns cs ≡ true → Sublistᴰ (map (λ (c : Check). c .number) cs) ns
+unfolding inOrder
+in-order [] [] e = Sublistᴰ·slnil
+in-order (n ∷ ns) [] e = Sublistᴰ·cons (in-order ns [] refl)
+in-order [] (c ∷ cs) e = absurd (false≢true e)
+in-order (n ∷ ns) (c ∷ cs) e =
+    bool? (eqb (c .number) n)
+    (λ q. Sublistᴰ·cons-cons (eqb-true (c .number) n q) (in-order ns cs (rw (q, inOrder) at e)))
+    (λ q. Sublistᴰ·cons (in-order ns (c ∷ cs) (rw (q, inOrder) at e)))
