@@ -9,7 +9,7 @@ use native.Mathlib.Numerals.{add-one}
 use lib.Dec.{eqb}
 use lib.ListN.{length, set, replicate}
 use borrow.Author.Tests.{eqb-false, ne-eqb, not-true}
-use Rattle.layout.specs.Layout.{blank}
+use Rattle.layout.specs.Layout.{scratchWords, blank}
 use Rattle.sets.specs.Config.{Config}
 use Rattle.sets.specs.Layout.{mostConfigs, configAt, configCount}
 use Rattle.sets.specs.Lists.{any}
@@ -47,6 +47,10 @@ conflicts v c = many (subset (configsOf v) c)
 pub record Telling (v z : List ℕ) : Type 0 where
   pub able : Markable v z
   pub tells : (i : ℕ) → i < configCount v → not (eqb (markAt z (leaderAt z i)) 0) ≡ conflicts v (configAt v i)
+
+-- where the leader of the config at a place stands, and what is told of it
+pub leader-within : {v z : List ℕ} → Telling v z → (m : ℕ) → m < configCount v → (m < mostConfigs) × (leaderAt z m ≤ m) × (length z ≡ scratchWords)
+leader-within t m h = (omega (arith, t .able .words .few), t .able .early m h, t .able .words .lent)
 
 -- an alternative put in, if it is to be
 unfoldable pub insertIf : Bool → ℕ → List ℕ → List ℕ

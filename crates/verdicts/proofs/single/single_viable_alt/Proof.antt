@@ -11,34 +11,26 @@ use Rattle.verdicts.proofs.single.single_viable_alt.Tie as tie
 returns : tie.Need-returns
 unfolding singleViableAltCall
 returns c =
-    let args-at = c .before .before .before .before .before .before .before .before .before .before .args in
-    let open-set-at = c .before .before .before .before .before .open-set in
-    let args = args-at in
-    let open-set = open-set-at in
+    let args = c .before .before .before .before .before .before .before .before .before .before .args in
+    let open-set = c .before .before .before .before .before .open-set in
     let opened = c .before .opened in
     let e : open-set .result ≡ Refused (opened .given .0 .0) = cc in
     left-refused (args .store .now) (args .set .now) (args .scratch .now) 0 [] _ [] refl [] (opened .given .0 .0) (open-set .last .1 .1 .0) (rw e at (open-set .ensures))
 
 viable-alt-requires : tie.Need-viable-alt-requires
 viable-alt-requires c κs =
-    let open-set-at = c .before .before .before .before .before .open-set in
-    let open-set = open-set-at in
+    let open-set = c .before .before .before .before .before .open-set in
     let e : open-set .result ≡ ready = c .before .enum-told .given .1 in
     ready-lent ((rw e at (open-set .ensures)) .0)
 
 returns-2 : tie.Need-returns-2
 unfolding singleViableAltCall
 returns-2 c =
-    let args-at = c .before .before .before .before .before .before .before .before .before .before .before .before .before .before .before .before .before .before .args in
-    let clear-at = c .before .before .before .clear in
-    let enum-told-at = c .before .before .before .before .before .before .before .before .before .enum-told in
-    let open-set-at = c .before .before .before .before .before .before .before .before .before .before .before .before .before .open-set in
-    let viable-alt-at = c .before .before .before .before .before .before .before .viable-alt in
-    let args = args-at in
-    let clear = clear-at in
-    let enum-told = enum-told-at in
-    let open-set = open-set-at in
-    let viable-alt = viable-alt-at in
+    let args = c .before .before .before .before .before .before .before .before .before .before .before .before .before .before .before .before .before .before .args in
+    let clear = c .before .before .before .clear in
+    let enum-told = c .before .before .before .before .before .before .before .before .before .enum-told in
+    let open-set = c .before .before .before .before .before .before .before .before .before .before .before .before .before .open-set in
+    let viable-alt = c .before .before .before .before .before .before .before .viable-alt in
     let e : open-set .result ≡ ready = enum-told .given .1 in
     let s = rw e at (open-set .ensures) in
     ap (λ (r : VerdictReply). verdictLeft r (clear .last .0) []) (c .found .ensures ∙ ap alternative (viable-alt .ensures .0))

@@ -13,18 +13,15 @@ use Rattle.verdicts.proofs.subsets.all_subsets_conflict.Tie as tie
 returns : tie.Need-returns
 unfolding allSubsetsConflictCall
 returns c =
-    let args-at = c .before .before .before .before .before .before .before .before .before .before .args in
-    let open-set-at = c .before .before .before .before .before .open-set in
-    let args = args-at in
-    let open-set = open-set-at in
+    let args = c .before .before .before .before .before .before .before .before .before .before .args in
+    let open-set = c .before .before .before .before .before .open-set in
     let opened = c .before .opened in
     let e : open-set .result ≡ Refused (opened .given .0 .0) = cc in
     left-refused (args .store .now) (args .set .now) (args .scratch .now) 0 [] _ [] refl [] (opened .given .0 .0) (open-set .last .1 .1 .0) (rw e at (open-set .ensures))
 
 each-picked-requires : tie.Need-each-picked-requires
 each-picked-requires c κs =
-    let open-set-at = c .before .before .before .before .before .open-set in
-    let open-set = open-set-at in
+    let open-set = c .before .before .before .before .before .open-set in
     let e : open-set .result ≡ ready = c .before .enum-told .given .1 in
     ready-lent ((rw e at (open-set .ensures)) .0)
 
@@ -32,16 +29,11 @@ returns-2 : tie.Need-returns-2
 unfolding allSubsetsConflictCall
 returns-2 c =
     let far = c .before .before .before .before .before .before .before .before .before .before .before .before in
-    let args-at = far .before .before .before .before .before .before .args in
-    let clear-at = c .before .before .before .clear in
-    let each-picked-at = c .before .before .before .before .before .before .before .each-picked in
-    let enum-told-at = c .before .before .before .before .before .before .before .before .before .enum-told in
-    let open-set-at = c .before .before .before .before .before .before .before .before .before .before .before .before .before .open-set in
-    let args = args-at in
-    let clear = clear-at in
-    let each-picked = each-picked-at in
-    let enum-told = enum-told-at in
-    let open-set = open-set-at in
+    let args = far .before .before .before .before .before .before .args in
+    let clear = c .before .before .before .clear in
+    let each-picked = c .before .before .before .before .before .before .before .each-picked in
+    let enum-told = c .before .before .before .before .before .before .before .before .before .enum-told in
+    let open-set = c .before .before .before .before .before .before .before .before .before .before .before .before .before .open-set in
     let e : open-set .result ≡ ready = enum-told .given .1 in
     let s = rw e at (open-set .ensures) in
     let yes = each-picked in

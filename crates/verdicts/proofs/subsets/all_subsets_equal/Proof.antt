@@ -11,18 +11,15 @@ use Rattle.verdicts.proofs.subsets.all_subsets_equal.Tie as tie
 returns : tie.Need-returns
 unfolding allSubsetsEqualCall
 returns c =
-    let args-at = c .before .before .before .before .before .before .before .before .before .before .args in
-    let open-set-at = c .before .before .before .before .before .open-set in
-    let args = args-at in
-    let open-set = open-set-at in
+    let args = c .before .before .before .before .before .before .before .before .before .before .args in
+    let open-set = c .before .before .before .before .before .open-set in
     let opened = c .before .opened in
     let e : open-set .result ≡ Refused (opened .given .0 .0) = cc in
     left-refused (args .store .now) (args .set .now) (args .scratch .now) 0 [] _ [] refl [] (opened .given .0 .0) (open-set .last .1 .1 .0) (rw e at (open-set .ensures))
 
 subsets-equal-requires : tie.Need-subsets-equal-requires
 subsets-equal-requires c κs =
-    let open-set-at = c .before .before .before .before .before .open-set in
-    let open-set = open-set-at in
+    let open-set = c .before .before .before .before .before .open-set in
     let e : open-set .result ≡ ready = c .before .enum-told .given .1 in
     ready-lent ((rw e at (open-set .ensures)) .0)
 
@@ -30,16 +27,11 @@ returns-2 : tie.Need-returns-2
 unfolding allSubsetsEqualCall
 returns-2 c =
     let far = c .before .before .before .before .before .before .before .before .before .before .before .before in
-    let args-at = far .before .before .before .before .before .before .args in
-    let clear-at = c .before .before .before .clear in
-    let enum-told-at = c .before .before .before .before .before .before .before .before .before .enum-told in
-    let open-set-at = c .before .before .before .before .before .before .before .before .before .before .before .before .before .open-set in
-    let subsets-equal-at = c .before .before .before .before .before .before .before .subsets-equal in
-    let args = args-at in
-    let clear = clear-at in
-    let enum-told = enum-told-at in
-    let open-set = open-set-at in
-    let subsets-equal = subsets-equal-at in
+    let args = far .before .before .before .before .before .before .args in
+    let clear = c .before .before .before .clear in
+    let enum-told = c .before .before .before .before .before .before .before .before .before .enum-told in
+    let open-set = c .before .before .before .before .before .before .before .before .before .before .before .before .before .open-set in
+    let subsets-equal = c .before .before .before .before .before .before .before .subsets-equal in
     let e : open-set .result ≡ ready = enum-told .given .1 in
     let s = rw e at (open-set .ensures) in
     let yes = subsets-equal in

@@ -16,10 +16,8 @@ use Rattle.verdicts.proofs.verdict.has_sll_conflict_terminating_predict
 returns : tie.Need-returns
 unfolding verdictCall
 returns c =
-    let args-at = c .before .before .before .before .before .before .before .before .before .before .before .args in
-    let open-set-at = c .before .before .before .before .before .open-set in
-    let args = args-at in
-    let open-set = open-set-at in
+    let args = c .before .before .before .before .before .before .before .before .before .before .before .args in
+    let open-set = c .before .before .before .before .before .open-set in
     let opened = c .before .opened in
     let e : open-set .result ≡ Refused (opened .given .0 .0) = cc in
     left-refused (args .store .now) (args .set .now) (args .scratch .now) 0 [] _ [] refl _ (opened .given .0 .0) (open-set .last .1 .1 .0) (rw e at (open-set .ensures))
@@ -27,16 +25,11 @@ returns c =
 returns-2 : tie.Need-returns-2
 unfolding verdictCall
 returns-2 c =
-    let args-at = c .before .before .before .before .before .before .before .before .before .before .before .before .before .before .before .args in
-    let clear-at = c .before .before .clear in
-    let enum-told-at = c .before .before .before .before .before .enum-told in
-    let if1-at = c .before .before .before .before .if1 in
-    let open-set-at = c .before .before .before .before .before .before .before .before .before .open-set in
-    let args = args-at in
-    let clear = clear-at in
-    let enum-told = enum-told-at in
-    let if1 = if1-at in
-    let open-set = open-set-at in
+    let args = c .before .before .before .before .before .before .before .before .before .before .before .before .before .before .before .args in
+    let clear = c .before .before .clear in
+    let enum-told = c .before .before .before .before .before .enum-told in
+    let if1 = c .before .before .before .before .if1 in
+    let open-set = c .before .before .before .before .before .before .before .before .before .open-set in
     let e : open-set .result ≡ ready = enum-told .given .1 in
     let s = rw e at (open-set .ensures) in
     left-due (args .store .now) (args .set .now) (args .scratch .now) 0 [] _ [] refl (open-set .last .1 .1 .0) (clear .last .0) (ready-lent (s .0) .lent) (clear .ensures)
@@ -44,10 +37,8 @@ returns-2 c =
 
 decide-requires : tie.Need-decide-requires
 decide-requires c κs =
-    let enum-told-at = c .before .before .enum-told in
-    let open-set-at = c .before .before .before .before .before .before .open-set in
-    let enum-told = enum-told-at in
-    let open-set = open-set-at in
+    let enum-told = c .before .before .enum-told in
+    let open-set = c .before .before .before .before .before .before .open-set in
     let e : open-set .result ≡ ready = enum-told .given .1 in
     ready-lent ((rw e at (open-set .ensures)) .0)
 
@@ -55,18 +46,12 @@ returns-3 : tie.Need-returns-3
 unfolding verdictCall
 returns-3 c =
     let far = c .before .before .before .before .before .before .before .before .before .before .before .before in
-    let args-at = far .before .before .before .before .before .before .before .before .args in
-    let clear2-at = c .before .before .before .clear2 in
-    let decide-at = c .before .before .before .before .before .before .before .decide in
-    let enum-told-at = c .before .before .before .before .before .before .before .before .before .before .enum-told in
-    let if1-at = c .before .before .before .before .before .before .before .before .before .if1 in
-    let open-set-at = far .before .before .open-set in
-    let args = args-at in
-    let clear2 = clear2-at in
-    let decide = decide-at in
-    let enum-told = enum-told-at in
-    let if1 = if1-at in
-    let open-set = open-set-at in
+    let args = far .before .before .before .before .before .before .before .before .args in
+    let clear2 = c .before .before .before .clear2 in
+    let decide = c .before .before .before .before .before .before .before .decide in
+    let enum-told = c .before .before .before .before .before .before .before .before .before .before .enum-told in
+    let if1 = c .before .before .before .before .before .before .before .before .before .if1 in
+    let open-set = far .before .before .open-set in
     let e : open-set .result ≡ ready = enum-told .given .1 in
     let s = rw e at (open-set .ensures) in
     let yes = decide in

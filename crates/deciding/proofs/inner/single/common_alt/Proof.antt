@@ -20,55 +20,41 @@ config-count-requires c κs = c .before .pre .sized
 
 returns : tie.Need-returns Inv-loop μ-loop
 returns c =
-    let args-at = c .before .before .before .args in
-    let args = args-at in
+    let args = c .before .before .before .args in
     sym (unique-none (args .set .now) (sym (c .before .config-count .ensures) ∙ c .if1 .taken))
 
 alternative-of-requires : tie.Need-alternative-of-requires Inv-loop μ-loop
 alternative-of-requires c κs =
-    let pre-at = c .before .before .before .pre in
-    let pre = pre-at in
+    let pre = c .before .before .before .pre in
     (pre .sized, omega arith)
 
 loop-holds : tie.Need-loop-holds Inv-loop μ-loop
 loop-holds c =
-    let args-at = c .before .before .before .before .args in
-    let config-count-at = c .before .before .config-count in
-    let args = args-at in
-    let config-count = config-count-at in
+    let args = c .before .before .before .before .args in
+    let config-count = c .before .before .config-count in
     (omega arith, omega (arith, c .before .if1 .left, config-count .ensures), same-begin (args .set .now))
 
 alternative-of-requires-2 : tie.Need-alternative-of-requires-2 Inv-loop μ-loop
 alternative-of-requires-2 c κs =
-    let config-count-at = c .before .before .before .before .config-count in
-    let pre-at = c .before .before .before .before .before .before .pre in
-    let config-count = config-count-at in
-    let pre = pre-at in
+    let config-count = c .before .before .before .before .config-count in
+    let pre = c .before .before .before .before .before .before .pre in
     (pre .sized, omega (arith, c .loop-test .taken, config-count .ensures, pre .few))
 
 returns-2 : tie.Need-returns-2 Inv-loop μ-loop
 returns-2 c =
-    let alternative-of-at = c .before .before .before .before .alternative-of in
-    let args-at = c .before .before .before .before .before .before .before .before .args in
-    let config-count-at = c .before .before .before .before .before .before .config-count in
-    let loop-at = c .before .before .before .loop in
-    let loop-test-at = c .before .before .loop-test in
-    let alternative-of = alternative-of-at in
-    let args = args-at in
-    let config-count = config-count-at in
-    let loop = loop-at in
-    let loop-test = loop-test-at in
+    let alternative-of = c .before .before .before .before .alternative-of in
+    let args = c .before .before .before .before .before .before .before .before .args in
+    let config-count = c .before .before .before .before .before .before .config-count in
+    let loop = c .before .before .before .loop in
+    let loop-test = c .before .before .loop-test in
     sym (unique-two (args .set .now) (loop .place) (omega (arith, loop-test .taken, config-count .ensures))
     (λ e. c .if2 .taken (c .before .alternative-of2 .ensures ∙ e ∙ sym (alternative-of .ensures))))
 
 add-place : tie.Need-add-place Inv-loop μ-loop
 add-place c =
-    let config-count-at = c .before .before .before .before .before .before .config-count in
-    let loop-test-at = c .before .before .loop-test in
-    let pre-at = c .before .before .before .before .before .before .before .before .pre in
-    let config-count = config-count-at in
-    let loop-test = loop-test-at in
-    let pre = pre-at in
+    let config-count = c .before .before .before .before .before .before .config-count in
+    let loop-test = c .before .before .loop-test in
+    let pre = c .before .before .before .before .before .before .before .before .pre in
     omega (arith, loop-test .taken, config-count .ensures, pre .few)
 
 loop-less : tie.Need-loop-less Inv-loop μ-loop
@@ -76,27 +62,19 @@ loop-less c = omega (arith, c .before .before .loop-test .taken)
 
 loop-again : tie.Need-loop-again Inv-loop μ-loop
 loop-again c =
-    let alternative-of-at = c .before .before .before .before .alternative-of in
-    let args-at = c .before .before .before .before .before .before .before .before .args in
-    let config-count-at = c .before .before .before .before .before .before .config-count in
-    let loop-at = c .before .before .before .loop in
-    let loop-test-at = c .before .before .loop-test in
-    let alternative-of = alternative-of-at in
-    let args = args-at in
-    let config-count = config-count-at in
-    let loop = loop-at in
-    let loop-test = loop-test-at in
+    let alternative-of = c .before .before .before .before .alternative-of in
+    let args = c .before .before .before .before .before .before .before .before .args in
+    let config-count = c .before .before .before .before .before .before .config-count in
+    let loop = c .before .before .before .loop in
+    let loop-test = c .before .before .loop-test in
     let e = sym (c .before .alternative-of2 .ensures) ∙ c .if2 .left ∙ alternative-of .ensures in
     (omega arith, omega (arith, loop-test .taken, config-count .ensures), same-more (args .set .now) (loop .place) (loop .inv .2) e)
 
 returns-3 : tie.Need-returns-3 Inv-loop μ-loop
 returns-3 c =
-    let alternative-of-at = c .before .before .alternative-of in
-    let args-at = c .before .before .before .before .before .before .args in
-    let config-count-at = c .before .before .before .before .config-count in
-    let alternative-of = alternative-of-at in
-    let args = args-at in
-    let config-count = config-count-at in
+    let alternative-of = c .before .before .alternative-of in
+    let args = c .before .before .before .before .before .before .args in
+    let config-count = c .before .before .before .before .config-count in
     let loop = c .before .loop in
     ap only (alternative-of .ensures) ∙ sym (unique-one (args .set .now) (omega (arith, loop .inv .0, loop .inv .1))
     (λ i l. loop .inv .2 i (omega (arith, l, c .loop-test .left, config-count .ensures))))

@@ -7,31 +7,23 @@ use Rattle.deciding.proofs.inner.single.viable_alt.Tie as tie
 
 returns : tie.Need-returns
 returns c =
-    let args-at = c .before .before .before .before .args in
-    let pre-at = c .before .before .before .before .pre in
-    let args = args-at in
-    let pre = pre-at in
+    let args = c .before .before .before .before .args in
+    let pre = c .before .before .before .before .pre in
     (sym (viable-none (args .set .now) (sym (c .before .config-count .ensures) ∙ c .if1 .taken)), pre)
 
 returns-2 : tie.Need-returns-2
 returns-2 c =
-    let args-at = c .before .before .before .before .before .before .before .before .before .before .args in
-    let each-picked-at = c .before .before .before .each-picked in
-    let least-alt-at = c .before .before .before .before .before .least-alt in
-    let args = args-at in
-    let each-picked = each-picked-at in
-    let least-alt = least-alt-at in
+    let args = c .before .before .before .before .before .before .before .before .before .before .args in
+    let each-picked = c .before .before .before .each-picked in
+    let least-alt = c .before .before .before .before .before .least-alt in
     let e = viable-held (args .set .now) (record { 0 = least-alt .result }) (least-alt .ensures) (sym (each-picked .ensures .0) ∙ c .if2 .taken) in
     (sym e, each-picked .ensures .1)
 
 returns-3 : tie.Need-returns-3
 returns-3 c =
-    let args-at = c .before .before .before .before .before .before .before .before .before .before .args in
-    let each-picked-at = c .before .before .before .each-picked in
-    let least-alt-at = c .before .before .before .before .before .least-alt in
-    let args = args-at in
-    let each-picked = each-picked-at in
-    let least-alt = least-alt-at in
+    let args = c .before .before .before .before .before .before .before .before .before .before .args in
+    let each-picked = c .before .before .before .each-picked in
+    let least-alt = c .before .before .before .before .before .least-alt in
     let e = viable-not-held (args .set .now) (record { 0 = least-alt .result }) (least-alt .ensures) (sym (each-picked .ensures .0) ∙ c .if2 .left) in
     (sym e, each-picked .ensures .1)
 

@@ -8,38 +8,26 @@ use Rattle.deciding.proofs.inner.verdict.decide.Tie as tie
 
 returns : tie.Need-returns
 returns c =
-    let args-at = c .before .before .before .before .before .args in
-    let pre-at = c .before .before .before .before .before .pre in
-    let args = args-at in
-    let pre = pre-at in
+    let args = c .before .before .before .before .before .args in
+    let pre = c .before .before .before .before .before .pre in
     (sym (verdict-stopped (args .stops .now) (args .set .now) (sym (c .before .all-stopped .ensures) ∙ c .if1 .taken)), pre)
 
 returns-2 : tie.Need-returns-2
 returns-2 c =
-    let all-stopped-at = c .before .before .before .before .before .before .before .before .all-stopped in
-    let args-at = c .before .before .before .before .before .before .before .before .before .before .before .before .args in
-    let if1-at = c .before .before .before .before .before .before .before .if1 in
-    let lead-all-at = c .before .before .before .before .before .lead-all in
-    let all-stopped = all-stopped-at in
-    let args = args-at in
-    let if1 = if1-at in
-    let lead-all = lead-all-at in
+    let all-stopped = c .before .before .before .before .before .before .before .before .all-stopped in
+    let args = c .before .before .before .before .before .before .before .before .before .before .before .before .args in
+    let if1 = c .before .before .before .before .before .before .before .if1 in
+    let lead-all = c .before .before .before .before .before .lead-all in
     (sym (verdict-plain (args .stops .now) (args .set .now) (sym (all-stopped .ensures) ∙ if1 .left) (sym (c .before .clashes .ensures) ∙ not-true _ (c .if2 .taken))), lead-all .ensures .0 .words)
 
 returns-3 : tie.Need-returns-3
 returns-3 c =
-    let all-stopped-at = c .before .before .before .before .before .before .before .before .before .before .before .before .all-stopped in
-    let args-at = c .before .before .before .before .before .before .before .before .before .before .before .before .before .before .before .before .args in
-    let clashes-at = c .before .before .before .before .before .clashes in
-    let each-picked-at = c .before .before .each-picked in
-    let if1-at = c .before .before .before .before .before .before .before .before .before .before .before .if1 in
-    let if2-at = c .before .before .before .before .if2 in
-    let all-stopped = all-stopped-at in
-    let args = args-at in
-    let clashes = clashes-at in
-    let each-picked = each-picked-at in
-    let if1 = if1-at in
-    let if2 = if2-at in
+    let all-stopped = c .before .before .before .before .before .before .before .before .before .before .before .before .all-stopped in
+    let args = c .before .before .before .before .before .before .before .before .before .before .before .before .before .before .before .before .args in
+    let clashes = c .before .before .before .before .before .clashes in
+    let each-picked = c .before .before .each-picked in
+    let if1 = c .before .before .before .before .before .before .before .before .before .before .before .if1 in
+    let if2 = c .before .before .before .before .if2 in
     let e = verdict-states (args .stops .now) (args .set .now) (sym (all-stopped .ensures) ∙ if1 .left) (sym (clashes .ensures) ∙ not-false _ (if2 .left)) in
     (each-picked .ensures .0 ∙ sym e, each-picked .ensures .1)
 

@@ -23,12 +23,9 @@ shared-slice-read-if1 c = omega arith
 
 returns : tie.Need-returns Inv-loop μ-loop
 returns c =
-    let args-at = c .before .before .before .before .args in
-    let loop-at = c .before .before .before .loop in
-    let loop-test-at = c .before .before .loop-test in
-    let args = args-at in
-    let loop = loop-at in
-    let loop-test = loop-test-at in
+    let args = c .before .before .before .before .args in
+    let loop = c .before .before .before .loop in
+    let loop-test = c .before .before .loop-test in
     sym (listed-found (args .stops .now) (args .state) (loop .i) (loop-test .taken) (c .if1 .taken))
 
 add-i : tie.Need-add-i Inv-loop μ-loop
@@ -39,14 +36,12 @@ loop-less c = omega arith
 
 loop-again : tie.Need-loop-again Inv-loop μ-loop
 loop-again c =
-    let loop-at = c .before .before .before .loop in
-    let loop = loop-at in
+    let loop = c .before .before .before .loop in
     (omega arith, below-more _ _ (loop .inv .1) (c .if1 .left))
 
 returns-2 : tie.Need-returns-2 Inv-loop μ-loop
 returns-2 c =
-    let args-at = c .before .before .args in
-    let args = args-at in
+    let args = c .before .before .args in
     sym (listed-none (args .stops .now) (args .state) (λ j l. c .before .loop .inv .1 j (omega (arith, l, c .loop-test .left))))
 
 pub is-listed-spec : {M : Type 1} → statement M

@@ -44,13 +44,12 @@ traits-of-requires-2 c κs =
 
 returns : tie.Need-returns Inv-loop μ-loop
 returns c =
-    let args-at = c .before .before .before .before .before .before .before .before .before .args in
+    let args = c .before .before .before .before .before .before .before .before .before .args in
     let loop = c .before .before .before .before .loop in
     let loop-test = c .before .before .before .loop-test in
     let pre = c .before .before .before .before .before .before .before .before .before .pre in
     let traits-of = c .before .before .before .before .before .before .traits-of in
     let traits-of2 = c .before .before .traits-of2 in
-    let args = args-at in
     let e = compared (args .set .now) (args .alike) _ (args .place) _ _ _ (c .before .same-traits .ensures) (traits-of2 .ensures) (traits-of .ensures) in
     sym (walk-hit pre (loop .next) (loop-test .taken) (loop .inv) (sym e ∙ c .if1 .taken))
 
@@ -70,27 +69,25 @@ shared-slice-read-next-2 c =
 
 loop-less : tie.Need-loop-less Inv-loop μ-loop
 loop-less c =
-    let args-at = c .before .before .before .before .before .before .before .before .before .before .args in
+    let args = c .before .before .before .before .before .before .before .before .before .before .args in
     let loop = c .before .before .before .before .before .loop in
     let loop-test = c .before .before .before .before .loop-test in
     let pre = c .before .before .before .before .before .before .before .before .before .before .pre in
     let same-traits = c .before .before .same-traits in
     let traits-of = c .before .before .before .before .before .before .before .traits-of in
     let traits-of2 = c .before .before .before .traits-of2 in
-    let args = args-at in
     let e = compared (args .set .now) (args .alike) _ (args .place) _ _ _ (same-traits .ensures) (traits-of2 .ensures) (traits-of .ensures) in
     walk-on pre (loop .next) (loop-test .taken) (loop .inv) (sym e ∙ c .before .if1 .left) .1
 
 loop-again : tie.Need-loop-again Inv-loop μ-loop
 loop-again c =
-    let args-at = c .before .before .before .before .before .before .before .before .before .before .args in
+    let args = c .before .before .before .before .before .before .before .before .before .before .args in
     let loop = c .before .before .before .before .before .loop in
     let loop-test = c .before .before .before .before .loop-test in
     let pre = c .before .before .before .before .before .before .before .before .before .before .pre in
     let same-traits = c .before .before .same-traits in
     let traits-of = c .before .before .before .before .before .before .before .traits-of in
     let traits-of2 = c .before .before .before .traits-of2 in
-    let args = args-at in
     let e = compared (args .set .now) (args .alike) _ (args .place) _ _ _ (same-traits .ensures) (traits-of2 .ensures) (traits-of .ensures) in
     walk-on pre (loop .next) (loop-test .taken) (loop .inv) (sym e ∙ c .before .if1 .left) .0
 

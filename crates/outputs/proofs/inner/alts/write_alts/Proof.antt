@@ -4,7 +4,7 @@ use mathlib.Core.Path.{sym, ap, _∙_}
 use Prim.Native.Nat.{ℕ, _-_}
 use native.Mathlib.Omega.{arith}
 use lib.ListN.{replicate, length-set}
-use Rattle.outputs.specs.Alts.{Writing, writing-none, writing-asks, writing-next, writing-end, writing-fits}
+use Rattle.outputs.specs.Alts.{Writing, writing-none, writing-asks, writing-next, writing-end, writing-fits, leader-within}
 use Rattle.outputs.proofs.inner.alts.write_alts.Statement.{statement}
 use Rattle.outputs.proofs.inner.alts.write_alts.Tie as tie
 
@@ -28,81 +28,45 @@ loop-holds c =
 
 add-leader : tie.Need-add-leader Inv-loop μ-loop
 add-leader c =
-    let config-count = c .before .before .config-count in
     let pre = c .before .before .before .before .before .before .before .before .before .before .pre in
-    omega (arith, c .loop-test .taken, config-count .ensures, pre .0 .able .words .few, pre .0 .able .words .lent)
+    let w = leader-within (pre .0) (c .before .loop .place) (omega (arith, c .loop-test .taken, c .before .before .config-count .ensures)) in
+    omega (arith, w .0, w .1, w .2)
 
 mul-leader : tie.Need-mul-leader Inv-loop μ-loop
 mul-leader c =
-    let config-count = c .before .before .config-count in
     let pre = c .before .before .before .before .before .before .before .before .before .before .pre in
-    omega (arith, c .loop-test .taken, config-count .ensures, pre .0 .able .words .few, pre .0 .able .words .lent)
+    let w = leader-within (pre .0) (c .before .loop .place) (omega (arith, c .loop-test .taken, c .before .before .config-count .ensures)) in
+    omega (arith, w .0, w .1, w .2)
 
 shared-slice-read-leader : tie.Need-shared-slice-read-leader Inv-loop μ-loop
 shared-slice-read-leader c =
-    let config-count = c .before .before .before .config-count in
     let pre = c .before .before .before .before .before .before .before .before .before .before .before .pre in
-    omega (arith, c .before .loop-test .taken, config-count .ensures, pre .0 .able .words .few, pre .0 .able .words .lent)
+    let w = leader-within (pre .0) (c .before .before .loop .place) (omega (arith, c .before .loop-test .taken, c .before .before .before .config-count .ensures)) in
+    omega (arith, w .0, w .1, w .2)
 
 cast-leader : tie.Need-cast-leader Inv-loop μ-loop
 cast-leader c =
-    let config-count = c .before .before .before .config-count in
-    let loop = c .before .before .loop in
-    let loop-test = c .before .loop-test in
     let pre = c .before .before .before .before .before .before .before .before .before .before .before .pre in
-    omega (
-      arith,
-      pre .0 .able .early (loop .place) (omega (arith, loop-test .taken, config-count .ensures)),
-      loop-test .taken,
-      config-count .ensures,
-      pre .0 .able .words .few,
-      pre .0 .able .words .lent,
-    )
+    let w = leader-within (pre .0) (c .before .before .loop .place) (omega (arith, c .before .loop-test .taken, c .before .before .before .config-count .ensures)) in
+    omega (arith, w .0, w .1, w .2)
 
 add-found : tie.Need-add-found Inv-loop μ-loop
 add-found c =
-    let config-count = c .before .before .before .config-count in
-    let loop = c .before .before .loop in
-    let loop-test = c .before .loop-test in
     let pre = c .before .before .before .before .before .before .before .before .before .before .before .pre in
-    omega (
-      arith,
-      pre .0 .able .early (loop .place) (omega (arith, loop-test .taken, config-count .ensures)),
-      loop-test .taken,
-      config-count .ensures,
-      pre .0 .able .words .few,
-      pre .0 .able .words .lent,
-    )
+    let w = leader-within (pre .0) (c .before .before .loop .place) (omega (arith, c .before .loop-test .taken, c .before .before .before .config-count .ensures)) in
+    omega (arith, w .0, w .1, w .2)
 
 mul-found : tie.Need-mul-found Inv-loop μ-loop
 mul-found c =
-    let config-count = c .before .before .before .config-count in
-    let loop = c .before .before .loop in
-    let loop-test = c .before .loop-test in
     let pre = c .before .before .before .before .before .before .before .before .before .before .before .pre in
-    omega (
-      arith,
-      pre .0 .able .early (loop .place) (omega (arith, loop-test .taken, config-count .ensures)),
-      loop-test .taken,
-      config-count .ensures,
-      pre .0 .able .words .few,
-      pre .0 .able .words .lent,
-    )
+    let w = leader-within (pre .0) (c .before .before .loop .place) (omega (arith, c .before .loop-test .taken, c .before .before .before .config-count .ensures)) in
+    omega (arith, w .0, w .1, w .2)
 
 shared-slice-read-found : tie.Need-shared-slice-read-found Inv-loop μ-loop
 shared-slice-read-found c =
-    let config-count = c .before .before .before .before .config-count in
-    let loop = c .before .before .before .loop in
-    let loop-test = c .before .before .loop-test in
     let pre = c .before .before .before .before .before .before .before .before .before .before .before .before .pre in
-    omega (
-      arith,
-      pre .0 .able .early (loop .place) (omega (arith, loop-test .taken, config-count .ensures)),
-      loop-test .taken,
-      config-count .ensures,
-      pre .0 .able .words .few,
-      pre .0 .able .words .lent,
-    )
+    let w = leader-within (pre .0) (c .before .before .before .loop .place) (omega (arith, c .before .before .loop-test .taken, c .before .before .before .before .config-count .ensures)) in
+    omega (arith, w .0, w .1, w .2)
 
 alternative-of-requires : tie.Need-alternative-of-requires Inv-loop μ-loop
 alternative-of-requires c κs =
