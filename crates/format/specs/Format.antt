@@ -5,7 +5,7 @@ use mathlib.Core.List.{List}
 use Prim.Native.Nat.{ℕ, _+_, _-_, _/_}
 use lib.Dec.{eqb, leb, ltb}
 use lib.ListN.{length, getD}
-use Rattle.sets.specs.Config.{Config}
+use Rattle.sets.specs.Config.{Config, config}
 use Rattle.format.specs.Bytes.{u16At, u32At, u64At, wordsAt}
 use Rattle.format.specs.Payloads.{payloadOf, accepts}
 
@@ -38,14 +38,7 @@ inMode m r e = ifWell (leb m 1) (found (r (eqb m 1)) e)
 
 -- "six words": a config that starts at p
 unfoldable pub configFrom : List ℕ → ℕ → Config
-configFrom s p = record {
-  state = u32At s p;
-  alternative = u32At s (p + 4);
-  context = u32At s (p + 8);
-  semantic = u32At s (p + 12);
-  reach = u32At s (p + 16);
-  provenance = u32At s (p + 20);
-}
+configFrom s p = config (u32At s p) (u32At s (p + 4)) (u32At s (p + 8)) (u32At s (p + 12)) (u32At s (p + 16)) (u32At s (p + 20))
 
 -- a record of this kind, or what else there is
 abbrev pub ifKind : Bool → Reading → Reading → Reading
