@@ -28,8 +28,8 @@ returns-2 c =
     rw (c .before .if2 .taken)
     (ap (λ (x : Config). found (add x) (args .next)) (c .read-config .ensures) ∙ sym (payload-add (args .bytes .now) (args .at) (args .next)), tt)
 
-sub-t8 : tie.Need-sub-t8
-sub-t8 c =
+sub-t9 : tie.Need-sub-t9
+sub-t9 c =
     let pre = c .before .before .before .before .pre in
     omega (arith, pre .0 .ordered)
 
@@ -74,7 +74,7 @@ read-set-payload-spec =
     returns
     read-config-requires
     returns-2
-    sub-t8
+    sub-t9
     returns-3
     returns-4
     returns-5
