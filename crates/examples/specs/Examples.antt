@@ -30,14 +30,17 @@ use Rattle.groups.specs.Lists.{which}
 use Rattle.groups.specs.Groups.{insert, rising, altsOf, together, firsts, subset, groups}
 use Rattle.groups.specs.Answers.{none, only, many, agree, smallest, singleViableAlt, uniqueAlt, stopped, justOne}
 use Rattle.groups.specs.Answers.{verdict as verdictOf}
+use Rattle.groups.specs.Reason.{stop, pick, reason}
+use Rattle.outputs.specs.Outputs.{padded}
 use Rattle.verdicts.specs.Calls.{VerdictReply, summary, readRefusal, readCall}
+use Rattle.reasons.specs.Calls.{clashing, reasonWords, whyCall}
 use Rattle.figures.specs.Calls.{figuresCall}
 use Rattle.format.specs.Bytes.{u16At, u32At, u64At, wordsAt}
 use Rattle.format.specs.Payloads.{payloads, payloadOf, accepts}
-use Rattle.format.specs.Format.{Record, singleton, merge, newSet, add, stops, verdict, show, close, found, ended, malformed, configFrom, payloadAt, recordAt, readAt}
+use Rattle.format.specs.Format.{Record, singleton, merge, newSet, add, stops, verdict, show, close, why, found, ended, malformed, configFrom, payloadAt, recordAt, readAt}
 use Rattle.lines.specs.Decimal.{digits, decimal}
 use Rattle.lines.specs.Lines.{contextLine, newSetLine, addedLine, stopsLine, alternativeBytes, verdictBytes, figuresLine, closedLine, refusalLine, entriesBytes}
-use Rattle.lines.specs.Lines.{entriesLine, endLine}
+use Rattle.lines.specs.Lines.{entriesLine, endLine, spacedAll, reasonLine}
 use Rattle.replies.specs.Replies.{Lent, wiped, lineOf, setLineOf, newSetCall, heldStops, stopsCall, verdictLineOf, callOf}
 use Rattle.steps.specs.Steps.{fresh, readingStep, stepOf, runFrom, runOf, scriptReplies}
 
@@ -60,16 +63,16 @@ unfolding any all fields field configAt configCount flagWord flag hasSemantic di
 configs = tt
 
 unfoldable subsets : Unit {0}
-unfolding which insert rising altsOf together firsts subset groups many agree smallest singleViableAlt uniqueAlt stopped justOne verdictOf
+unfolding which insert rising altsOf together firsts subset groups many agree smallest singleViableAlt uniqueAlt stopped justOne verdictOf pick reason
 subsets = tt
 
 unfoldable calls : Unit {0}
 unfolding singleS singletonChecks singletonCall mergeChecks mergeCall lentLengths lentChecks addChecks freshSetCall addCall closeCall setRefusal readRefusal
-    readCall figuresCall
+    readCall figuresCall padded clashing reasonWords whyCall
 calls = tt
 
 unfoldable printing : Unit {0}
-unfolding digits decimal contextLine newSetLine addedLine stopsLine alternativeBytes verdictBytes figuresLine closedLine refusalLine entriesBytes entriesLine
+unfolding digits decimal contextLine newSetLine addedLine stopsLine alternativeBytes verdictBytes figuresLine closedLine refusalLine entriesBytes entriesLine spacedAll reasonLine
     lineOf setLineOf verdictLineOf newSetCall stopsCall heldStops wiped callOf
 printing = tt
 
@@ -100,18 +103,19 @@ pub records : (readAt script 0 ≡ found (singleton 0 42) 16) × (readAt script 
 unfolding script readAt recordAt payloadAt accepts payloadOf payloads configFrom u16At u32At u64At
 records = (refl, refl, refl, refl, refl, refl, refl, refl)
 
--- stop states 7 and 8, none at all, and a close
+-- stop states 7 and 8, none at all, a close, and a question for the reason
 pub others : (readAt (8 ∷ 0 ∷ 5 ∷ 0 ∷ 7 ∷ 0 ∷ 0 ∷ 0 ∷ 8 ∷ 0 ∷ 0 ∷ 0 ∷ []) 0 ≡ found (stops (7 ∷ 8 ∷ [])) 12) × (readAt (0 ∷ 0 ∷ 5 ∷ 0 ∷ []) 0 ≡ found (stops []) 4)
-    × (readAt (0 ∷ 0 ∷ 8 ∷ 0 ∷ []) 0 ≡ found close 4)
+    × (readAt (0 ∷ 0 ∷ 8 ∷ 0 ∷ []) 0 ≡ found close 4) × (readAt (0 ∷ 0 ∷ 9 ∷ 0 ∷ []) 0 ≡ found why 4)
 unfolding readAt recordAt payloadAt accepts payloadOf payloads wordsAt u16At u32At u64At
-others = (refl, refl, refl)
+others = (refl, refl, refl, refl)
 
--- a byte short; kinds 0 and 9; lengths that are not the kinds'; a mode of 2
-pub faults : (readAt (4 ∷ 0 ∷ 7 ∷ 0 ∷ 2 ∷ 0 ∷ 0 ∷ []) 0 ≡ malformed) × (readAt (0 ∷ 0 ∷ 0 ∷ 0 ∷ []) 0 ≡ malformed) × (readAt (0 ∷ 0 ∷ 9 ∷ 0 ∷ []) 0 ≡ malformed)
+-- a byte short; kinds 0 and 10; lengths that are not the kinds'; a mode of 2
+pub faults : (readAt (4 ∷ 0 ∷ 7 ∷ 0 ∷ 2 ∷ 0 ∷ 0 ∷ []) 0 ≡ malformed) × (readAt (0 ∷ 0 ∷ 0 ∷ 0 ∷ []) 0 ≡ malformed) × (readAt (0 ∷ 0 ∷ 10 ∷ 0 ∷ []) 0 ≡ malformed)
     × (readAt (3 ∷ 0 ∷ 7 ∷ 0 ∷ 2 ∷ 0 ∷ 0 ∷ []) 0 ≡ malformed) × (readAt (3 ∷ 0 ∷ 5 ∷ 0 ∷ 2 ∷ 0 ∷ 0 ∷ []) 0 ≡ malformed) × (readAt (1 ∷ 0 ∷ 6 ∷ 0 ∷ 0 ∷ []) 0 ≡ malformed)
+    × (readAt (1 ∷ 0 ∷ 9 ∷ 0 ∷ 0 ∷ []) 0 ≡ malformed)
     × (readAt (1 ∷ 0 ∷ 3 ∷ 0 ∷ 2 ∷ []) 0 ≡ malformed) × (readAt (9 ∷ 0 ∷ 2 ∷ 0 ∷ 0 ∷ 0 ∷ 0 ∷ 0 ∷ 0 ∷ 0 ∷ 0 ∷ 0 ∷ 2 ∷ []) 0 ≡ malformed)
 unfolding readAt recordAt payloadAt accepts payloadOf payloads u16At u32At
-faults = (refl, refl, refl, refl, refl, refl, refl, refl)
+faults = (refl, refl, refl, refl, refl, refl, refl, refl, refl)
 
 -- the whole output: `C 1`, `C 2`, `E 2 42>0 $`, `N`, `A 1`, `A 1`, `V 1 - 1 1`, `T 3 2`
 pub example : scriptReplies script ≡
@@ -177,3 +181,19 @@ pub zero-and-none :
     × (said (verdict ∷ []) ≡ 86 ∷ 32 ∷ 48 ∷ 32 ∷ 45 ∷ 32 ∷ 45 ∷ 32 ∷ 49 ∷ 10 ∷ [])
 unfolding said saidFrom fresh opened
 zero-and-none = (refl, refl)
+
+-- ---- why this verdict (request A6)
+
+-- `W stop` of an empty set, and of configs that all have stopped though two of them clash; `W none`; `W one 8 2`, of the first state in set order and not
+-- of the lowest, though the subset before it clashes; `W clash 7 0 1 2`, of the first subset, whose alternatives are not those of the whole state
+pub reasons :
+    (said (why ∷ []) ≡ 87 ∷ 32 ∷ 115 ∷ 116 ∷ 111 ∷ 112 ∷ 10 ∷ [])
+    × (said (add (config 7 1 0) ∷ add (config 7 2 0) ∷ stops (7 ∷ []) ∷ why ∷ []) ≡ addedLine 1 ++ addedLine 1 ++ stopsLine 1 ++ reasonLine stop)
+    × (said (add (config 7 1 0) ∷ why ∷ []) ≡ addedLine 1 ++ 87 ∷ 32 ∷ 110 ∷ 111 ∷ 110 ∷ 101 ∷ 10 ∷ [])
+    × (said (add (config 7 1 0) ∷ add (config 7 2 0) ∷ add (config 8 2 0) ∷ add (config 3 5 0) ∷ why ∷ [])
+    ≡ addedLine 1 ++ addedLine 1 ++ addedLine 1 ++ addedLine 1 ++ 87 ∷ 32 ∷ 111 ∷ 110 ∷ 101 ∷ 32 ∷ 56 ∷ 32 ∷ 50 ∷ 10 ∷ [])
+    × (said (singleton 0 42 ∷ add (config 7 3 1) ∷ add (config 7 2 0) ∷ add (config 7 1 0) ∷ add (config 9 4 1) ∷ add (config 9 5 1) ∷ why ∷ [])
+    ≡ contextLine 1 ++ addedLine 1 ++ addedLine 1 ++ addedLine 1 ++ addedLine 1 ++ addedLine 1
+    ++ 87 ∷ 32 ∷ 99 ∷ 108 ∷ 97 ∷ 115 ∷ 104 ∷ 32 ∷ 55 ∷ 32 ∷ 48 ∷ 32 ∷ 49 ∷ 32 ∷ 50 ∷ 10 ∷ [])
+unfolding said saidFrom fresh opened
+reasons = (refl, refl, refl, refl, refl)

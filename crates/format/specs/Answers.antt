@@ -7,11 +7,11 @@ use Rattle.setcheck.specs.Configs.{configOf}
 use Rattle.format.specs.declared.records.Record.{Record}
 use Rattle.format.specs.declared.records.Record.the-variants.{Singleton, Merge, Show, Stops, OnSet}
 use Rattle.format.specs.declared.records.SetRecord.{SetRecord}
-use Rattle.format.specs.declared.records.SetRecord.the-variants.{NewSet, Add, Verdict, Close}
+use Rattle.format.specs.declared.records.SetRecord.the-variants.{NewSet, Add, Verdict, Close, Why}
 use Rattle.format.specs.declared.records.Step.{Step}
 use Rattle.format.specs.declared.records.Step.the-variants.{Found, End, Malformed}
 use Rattle.format.specs.Bytes.{wordsAt}
-use Rattle.format.specs.Format.{singleton, merge, newSet, add, stops, verdict, show, close, Reading, found, ended, malformed, Record as Call}
+use Rattle.format.specs.Format.{singleton, merge, newSet, add, stops, verdict, show, close, why, Reading, found, ended, malformed, Record as Call}
 
 -- a record of the code, by its fields' values; of stop states it has place and number, and they stand in the script's bytes s
 abbrev pub setCall : SetRecord → Call
@@ -19,6 +19,7 @@ setCall (NewSet m) = newSet m
 setCall (Add x) = add (configOf x)
 setCall Verdict = verdict
 setCall Close = close
+setCall Why = why
 
 abbrev pub callIn : List ℕ → Record → Call
 callIn s (Singleton p r) = singleton (p .0) (r .0)

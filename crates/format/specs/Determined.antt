@@ -9,12 +9,12 @@ use Rattle.setcheck.specs.declared.config.AtnConfig.{AtnConfig}
 use Rattle.format.specs.declared.records.Record.{Record}
 use Rattle.format.specs.declared.records.Record.the-variants.{Singleton, Merge, Show, Stops, OnSet}
 use Rattle.format.specs.declared.records.SetRecord.{SetRecord}
-use Rattle.format.specs.declared.records.SetRecord.the-variants.{NewSet, Add, Verdict, Close}
+use Rattle.format.specs.declared.records.SetRecord.the-variants.{NewSet, Add, Verdict, Close, Why}
 use Rattle.format.specs.declared.records.Step.{Step}
 use Rattle.format.specs.declared.records.Step.the-variants.{Found, End, Malformed}
 use Rattle.format.specs.Bytes.{wordsAt}
 use Rattle.format.specs.Bytes.Laws.{length-words}
-use Rattle.format.specs.Format.{singleton, merge, newSet, add, stops, verdict, show, close, Reading, found, ended, malformed, readAt, Record as Call}
+use Rattle.format.specs.Format.{singleton, merge, newSet, add, stops, verdict, show, close, why, Reading, found, ended, malformed, readAt, Record as Call}
 use Rattle.format.specs.Answers.{setCall, callIn, reading, Before, Placed}
 
 unfoldable atnConfig : Config → AtnConfig
@@ -37,6 +37,7 @@ recordOf e (stops xs) = Stops (e - 4 * length xs) (length xs)
 recordOf e verdict = OnSet Verdict
 recordOf e (show c) = Show (record { 0 = c })
 recordOf e close = OnSet Close
+recordOf e why = OnSet Why
 
 set-back : (e : ℕ) (r : SetRecord) → recordOf e (setCall r) ≡ OnSet r
 unfolding recordOf atnConfig
@@ -44,6 +45,7 @@ set-back e (NewSet m) = refl
 set-back e (Add x) = refl
 set-back e Verdict = refl
 set-back e Close = refl
+set-back e Why = refl
 
 record-back : (s : List ℕ) (e : ℕ) (r : Record) → Before s e r → recordOf e (callIn s r) ≡ r
 unfolding recordOf atnConfig

@@ -21,12 +21,13 @@ ghost use Rattle.format.specs.Whole.{NoContexts, Whole};
 const LAST_MODE: u8 = 1;
 
 // A record on the set: a new one, and whether it merges by wildcard; a config to add; a verdict; a
-// set to close.
+// set to close; why the verdict is what it is.
 pub enum SetRecord {
     NewSet(bool),
     Add(AtnConfig),
     Verdict,
     Close,
+    Why,
 }
 
 // A record: a state over a parent; two contexts to merge, and whether by wildcard; a context to
@@ -107,6 +108,9 @@ fn read_set_payload(bytes: &[u8], kind: u32, at: usize, next: usize) -> Step
     }
     if kind == 8 {
         return Step::Found(Record::OnSet(SetRecord::Close), next);
+    }
+    if kind == 9 {
+        return Step::Found(Record::OnSet(SetRecord::Why), next);
     }
     Step::Malformed
 }

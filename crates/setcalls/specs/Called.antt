@@ -6,9 +6,12 @@ use Prim.Native.Nat.{ℕ}
 use Rattle.sets.specs.Calls.{addCall, closeCall}
 use Rattle.setcheck.specs.Configs.{configOf}
 use Rattle.setcheck.specs.declared.config.AtnConfig.{AtnConfig}
+use Rattle.layout.specs.Layout.{blank}
+use Rattle.outputs.specs.Outputs.{altsLength}
 use Rattle.figures.specs.Calls.{figuresCall}
+use Rattle.reasons.specs.Calls.{whyCall}
 use Rattle.format.specs.declared.records.SetRecord.{SetRecord}
-use Rattle.format.specs.declared.records.SetRecord.the-variants.{NewSet, Add, Verdict, Close}
+use Rattle.format.specs.declared.records.SetRecord.the-variants.{NewSet, Add, Verdict, Close, Why}
 use Rattle.format.specs.Answers.{setCall}
 use Rattle.lines.specs.Lines.{closedLine}
 use Rattle.replies.specs.Replies.{lent, heldStops, callOf}
@@ -36,3 +39,8 @@ module _ (b w v t z : List ℕ) (x : SetRecord) (r : ℕ) (u : List ℕ) where
       → Answered b (callOf (lent w v t z) (setCall x)) r u (lent w v t z′)
   unfolding callOf
   call-verdict e z′ k = rw e (on-verdict b _ r u w v t z′ (lent w v t z) k refl refl refl)
+
+  pub call-why : x ≡ Why → (z′ : List ℕ) → Told b (whyCall w v z (heldStops t) (blank altsLength)) r u z′
+      → Answered b (callOf (lent w v t z) (setCall x)) r u (lent w v t z′)
+  unfolding callOf
+  call-why e z′ k = rw e (on-verdict b _ r u w v t z′ (lent w v t z) k refl refl refl)

@@ -40,7 +40,7 @@ fn judged(words: &mut Words, record: &Record) -> Option<Reply> {
         Record::NewSet { mode } => on_the_set(words, &SetCall::Fresh { full_context: mode == Mode::Full }),
         Record::Add(config) => on_the_set(words, &SetCall::Add(Config::of(config.words()))),
         Record::Close => on_the_set(words, &SetCall::Close),
-        Record::Stops(_) | Record::Verdict | Record::Show { .. } => return None,
+        Record::Stops(_) | Record::Verdict | Record::Why | Record::Show { .. } => return None,
     };
     Some(reply)
 }

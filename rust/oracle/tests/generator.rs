@@ -93,11 +93,15 @@ fn every_reply_and_refusal_occurs() {
         let lines = run(&generate::script(3, index, Kinds::All).script, Kinds::All).lines;
         for line in String::from_utf8(lines).expect("lines are text").lines() {
             let refused = line.starts_with('R');
-            let sort = if refused { line } else { &line[..1] };
+            let reason = line.starts_with('W').then(|| line.split_inclusive(' ').take(2).collect::<String>());
+            let sort = if refused { line } else { reason.as_deref().map_or(&line[..1], str::trim_end) };
             *seen.entry(sort.to_owned()).or_default() += 1;
         }
     }
-    for sort in ["A", "C", "E", "K", "N", "R 10", "R 4", "R 5", "R 6", "R 7", "R 8", "R 9", "S", "T", "V"] {
+    for sort in [
+        "A", "C", "E", "K", "N", "R 10", "R 4", "R 5", "R 6", "R 7", "R 8", "R 9", "S", "T", "V", "W clash",
+        "W none", "W one", "W stop",
+    ] {
         assert!(seen.get(sort).is_some_and(|&times| times >= 20), "{sort}: {seen:?}");
     }
 }
@@ -128,7 +132,7 @@ fn without_sets_no_other_kind_is_run() {
 fn words_are_counted() {
     assert_eq!(alphabet::words(3, Kinds::Store).len(), 1 + 18 + 18 * 18 + 18 * 18 * 18);
     let faults = malformed::each_fault().len();
-    assert_eq!(alphabet::words(2, Kinds::All).len(), 1 + 2 * (18 + 18 * 18) + faults);
+    assert_eq!(alphabet::words(2, Kinds::All).len(), 1 + (18 + 18 * 18) + (19 + 19 * 19) + faults);
 }
 
 /// All but the three lists of stop states are malformed, and 65 of these are too many.
@@ -138,6 +142,6 @@ fn each_fault_is_one() {
     let lines: Vec<Vec<u8>> = faults.iter().map(|script| run(script, Kinds::All).lines).collect();
     assert_eq!(lines.iter().filter(|&lines| lines == b"C 1\nR 9\nT 2 0\n").count(), faults.len() - 3);
     for reply in ["S 0", "S 64", "R 10"] {
-        assert!(lines.contains(&format!("C 1\n{reply}\nK\nT 2 0\n").into_bytes()), "{reply}");
+        assert!(lines.contains(&format!("C 1\n{reply}\nW stop\nT 2 0\n").into_bytes()), "{reply}");
     }
 }

@@ -92,7 +92,7 @@ fn malformed_input_ends_the_script() {
     assert_eq!(lines(&(longest + "hex 00")), "R 9\nT 1 0\n");
     for bad in [
         "hex 00 00 00 00",                            // kind 0
-        "hex 00 00 09 00",                            // kind 9
+        "hex 00 00 0A 00",                            // kind 10
         "hex 00 00 06 01",                            // kind 262
         "hex 01 00 06 00 00",                         // a verdict with a payload
         "hex 03 00 05 00 00 00 00",                   // stop states, not a multiple of 4

@@ -1,5 +1,6 @@
 // A record on the set is run.
 use format::SetRecord;
+use reasonreplies::inner::why::why;
 use setreplies::inner::changes::add;
 use setreplies::inner::changes::close;
 use setreplies::inner::changes::new_set;
@@ -31,5 +32,6 @@ pub fn run_set_record(
         SetRecord::Add(config) => add(store, set, scratch, config, out),
         SetRecord::Verdict => verdict(store, set, stops, scratch, out),
         SetRecord::Close => close(store, set, scratch, out),
+        SetRecord::Why => why(store, set, stops, scratch, out),
     }
 }

@@ -21,7 +21,7 @@ ghost use Rattle.replies.specs.Replies.{heldStops, verdictLineOf};
 ghost use Rattle.verdictreplies.specs.Figured.{Piece, Told as FiguresTold, stopLength};
 
 // Lays a space and a number, where there is room for any.
-fn put_number(out: &mut [u8], at: usize, n: u32) -> usize
+pub fn put_number(out: &mut [u8], at: usize, n: u32) -> usize
     requires { ⌜ at + 11 ≤ length (now out) ⌝ }
     ensures { λ r. ⌜ Piece (now (out .entry)) at (spaced n) r (now (out .exit)) ⌝ }
 {
@@ -75,7 +75,7 @@ fn lay_figures(out: &mut [u8], all: Figures) -> usize
 }
 
 // Where the states held end; a number above 64 holds them all.
-fn held_to(stops: &[u32]) -> usize
+pub fn held_to(stops: &[u32]) -> usize
     requires { ⌜ length (now stops) ≡ stopLength ⌝ }
     ensures { λ r. ⌜ (1 ≤ r) × (r ≤ length (now (stops .entry))) × (take (r - 1) (drop 1 (now (stops .entry))) ≡ heldStops (now (stops .entry))) ⌝ }
 {

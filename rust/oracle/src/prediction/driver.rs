@@ -3,14 +3,16 @@
 //! A child of the runtime's file: it makes configs field by field, and takes contexts out again.
 #![warn(dead_code)]
 
+use std::collections::BTreeSet;
+
 use super::{
     AtnConfig, AtnConfigKey, AtnConfigSet, ContextArena, ContextId, EMPTY_RETURN_STATE, PredictionWorkspace,
-    SemanticContextId, all_subsets_conflict, all_subsets_equal, has_sll_conflict_terminating_prediction,
-    single_viable_alt,
+    SemanticContextId, all_subsets_conflict, all_subsets_equal, conflicting_alt_subsets,
+    has_sll_conflict_terminating_prediction, single_viable_alt,
 };
 use crate::record::{Config, Mode, Record};
 use crate::reply::{
-    BAD_STATE, NO_ROOM, READ_ONLY, Refusal, Reply, SET_FULL, TOO_MANY_STOPS, UNKNOWN_CONTEXT, Verdict,
+    BAD_STATE, NO_ROOM, READ_ONLY, Reason, Refusal, Reply, SET_FULL, TOO_MANY_STOPS, UNKNOWN_CONTEXT, Verdict,
 };
 
 pub const MOST_CONTEXTS: usize = 512;
@@ -82,6 +84,7 @@ impl Machine {
             Record::Verdict => Ok(Reply::Verdict(self.verdict())),
             Record::Show { context } => self.show(*context),
             Record::Close => Ok(self.close()),
+            Record::Why => Ok(Reply::Reason(self.reason())),
         }
     }
 
@@ -166,6 +169,48 @@ impl Machine {
         let stops = &self.stops;
         let is_stop = |state: usize| stops.iter().any(|&stop| narrow(state) == stop);
         has_sll_conflict_terminating_prediction(&self.set, is_stop)
+    }
+
+    /// Why the verdict is what it is: the runtime has no such answer, but its groups and its verdict.
+    fn reason(&self) -> Reason {
+        let reason = self.first_reason();
+        let settled = matches!(reason, Reason::Stop | Reason::Clash { .. });
+        assert_eq!(settled, self.verdict_alone(), "the runtime's own verdict goes with the reason");
+        reason
+    }
+
+    fn first_reason(&self) -> Reason {
+        let configs = self.set.configs();
+        if configs.iter().all(|config| self.stops.contains(&narrow(config.state))) {
+            return Reason::Stop;
+        }
+        let Some((config, group)) =
+            configs.iter().map(|config| (config, self.group_of(config))).find(|(_, group)| group.len() > 1)
+        else {
+            return Reason::NoClash;
+        };
+        if let Some(lone) = configs.iter().find(|config| self.is_alone(config)) {
+            return Reason::One { state: narrow(lone.state), alternative: narrow(lone.alt) };
+        }
+        Reason::Clash {
+            state: narrow(config.state),
+            context: config.context.0,
+            alternatives: group.into_iter().map(narrow).collect(),
+        }
+    }
+
+    /// The runtime's group of a config. Its groups come without state, context or order, so it is asked for this one alone.
+    fn group_of(&self, config: &AtnConfig) -> BTreeSet<usize> {
+        let alike = |other: &&AtnConfig| (other.state, other.context) == (config.state, config.context);
+        let members: Vec<AtnConfig> = self.set.configs().iter().filter(alike).cloned().collect();
+        let group = conflicting_alt_subsets(&members).remove(0);
+        assert!(self.set.conflicting_alt_subsets().contains(&group), "it is a group of the set");
+        group
+    }
+
+    /// Is this alternative the only one of its state?
+    fn is_alone(&self, config: &AtnConfig) -> bool {
+        self.set.configs().iter().all(|other| other.state != config.state || other.alt == config.alt)
     }
 
     /// Do all subsets of the set conflict?

@@ -1,6 +1,6 @@
 -- By the record on the set.
 use borrow.Author.Needs.{needs}
-use Rattle.setcalls.specs.Called.{call-new, call-add, call-close, call-verdict}
+use Rattle.setcalls.specs.Called.{call-new, call-add, call-close, call-verdict, call-why}
 use Rattle.setcalls.proofs.inner.run.run_set_record.Statement.{statement}
 use Rattle.setcalls.proofs.inner.run.run_set_record.Tie as tie
 
@@ -23,6 +23,11 @@ close-requires : tie.Need-close-requires
 close-requires c κs =
     let pre = c .before .before .before .before .before .before .before .before .before .before .before .pre in
     pre .0
+
+why-requires : tie.Need-why-requires
+why-requires c κs =
+    let pre = c .before .before .before .before .before .before .before .before .before .before .before .pre in
+    pre
 
 returns : tie.Need-returns
 returns c =
@@ -56,6 +61,14 @@ returns-4 c =
     call-close (args .out .now) (args .store .now) (args .set .now) (args .stops .now) (args .scratch .now) (args .call) _ _
     (enum-told2 .given .1) _ _ (close .ensures)
 
+returns-5 : tie.Need-returns-5
+returns-5 c =
+    let args = c .before .before .before .before .before .before .before .before .before .before .before .before .before .before .before .before .args in
+    let enum-told3 = c .before .before .before .before .before .before .before .before .before .enum-told3 in
+    let why = c .before .before .before .before .why in
+    call-why (args .out .now) (args .store .now) (args .set .now) (args .stops .now) (args .scratch .now) (args .call) _ _
+    (enum-told3 .given .1) _ (why .ensures)
+
 pub run-set-record-spec : {M : Type 1} → statement M
 run-set-record-spec =
     tie.close
@@ -68,6 +81,8 @@ run-set-record-spec =
     verdict-requires
     (λ c. search needs)
     close-requires
+    (λ c. search needs)
+    why-requires
     (λ c. search needs) (λ c. search needs) (λ c. search needs)
     returns
     (λ c. search needs) (λ c. search needs) (λ c. search needs) (λ c. search needs)
@@ -75,4 +90,6 @@ run-set-record-spec =
     (λ c. search needs) (λ c. search needs) (λ c. search needs) (λ c. search needs)
     returns-3
     (λ c. search needs) (λ c. search needs) (λ c. search needs) (λ c. search needs)
-    returns-4)
+    returns-4
+    (λ c. search needs) (λ c. search needs) (λ c. search needs) (λ c. search needs)
+    returns-5)
