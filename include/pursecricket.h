@@ -71,6 +71,25 @@ typedef struct {
     uint32_t verdict;
 } purse_figures_answer;
 
+/* Why a verdict is what it is: the first of these that holds, in this order. Stop and clash go with yes, the others with no. */
+enum purse_reason {
+    PURSE_REFUSED = 0,
+    PURSE_STOP = 1,  /* every config is at a stop, an empty set included */
+    PURSE_NONE = 2,  /* no subset holds two alternatives */
+    PURSE_ONE = 3,   /* a state has only one alternative: the first such state in set order */
+    PURSE_CLASH = 4  /* the first subset that holds two alternatives or more */
+};
+
+/* A refusal's number; where that is 0, which reason, and what it names: the state of one or of a clash, the alternative of one, the context of a
+   clash; 0 where it names none. */
+typedef struct {
+    uint32_t refusal;
+    uint32_t reason;
+    uint32_t state;
+    uint32_t alternative;
+    uint32_t context;
+} purse_reason_answer;
+
 /* Makes the words a store of context 0 alone; answers a refusal's number. */
 uint32_t purse_fresh(uint32_t *store, size_t store_len);
 
@@ -136,5 +155,10 @@ uint32_t purse_conflicting_alts(const uint32_t *store, size_t store_len, const u
 /* How many subsets, unique and viable alternative and the verdict with these stop states, by one check of store and set. */
 purse_figures_answer purse_figures(const uint32_t *store, size_t store_len, const uint32_t *set, size_t set_len, uint32_t *scratch,
                                    size_t scratch_len, const uint32_t *stops, size_t stops_len);
+
+/* Why the verdict with these stop states is what it is. Writes the alternatives of a clash over all 257 words: how many, then these, rising; the
+   rest 0, and all 0 where it is no clash. A refusal leaves the words. */
+purse_reason_answer purse_why(const uint32_t *store, size_t store_len, const uint32_t *set, size_t set_len, uint32_t *scratch, size_t scratch_len,
+                              const uint32_t *stops, size_t stops_len, uint32_t *output, size_t output_len);
 
 #endif

@@ -30,6 +30,9 @@ int main(void) {
     printf("; verdict: %u\n", verdict());
     uint32_t refusal = purse_conflicting_alts(store, PURSE_STORE_WORDS, set, PURSE_SET_WORDS, scratch, PURSE_SCRATCH_WORDS, alternatives, PURSE_CONFLICT_WORDS);
     printf("refusal %u; %u conflicting alternatives: %u %u\n", refusal, alternatives[0], alternatives[1], alternatives[2]);
+    purse_reason_answer why = purse_why(store, PURSE_STORE_WORDS, set, PURSE_SET_WORDS, scratch, PURSE_SCRATCH_WORDS, 0, 0, alternatives, PURSE_CONFLICT_WORDS);
+    printf("why: %s in state %u and context %u, of %u alternatives: %u %u\n", why.reason == PURSE_CLASH ? "a clash" : "no clash", why.state, why.context,
+           alternatives[0], alternatives[1], alternatives[2]);
     printf("alternative 2 again, in a wider context, merged: %u", add(7, 2, both.value).value);
     printf("; verdict: %u\n", verdict());
 

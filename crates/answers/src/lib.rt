@@ -2,6 +2,7 @@
 mod adding;
 mod figuring;
 mod judging;
+mod reasoning;
 mod stores;
 mod structs;
 
@@ -13,6 +14,8 @@ pub use figuring::one_answer;
 pub use judging::alt_answer;
 pub use judging::decided_answer;
 pub use judging::written_number;
+pub use reasoning::ReasonAnswer;
+pub use reasoning::reason_answer;
 pub use stores::count_answer;
 pub use stores::fresh_number;
 pub use stores::number_answer;

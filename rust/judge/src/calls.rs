@@ -2,6 +2,7 @@
 
 use crate::layout::{DOLLAR, EMPTY_MARK, SCRATCH_WORDS, STORE_WORDS, narrow, wide};
 use crate::store::Store;
+use crate::verdicts::Reason;
 
 /// Refusals, by document 01's numbers.
 pub const UNSOUND_STORE: u32 = 1;
@@ -68,6 +69,8 @@ pub enum Reply {
         viable: Option<u32>,
         verdict: bool,
     },
+    /// The alternatives of a clash stand in the output.
+    Reason(Reason),
 }
 
 /// All that a call leaves.

@@ -33,6 +33,18 @@ pub struct FiguresAnswer {
     pub verdict: u32,
 }
 
+/// A refusal number; where that is 0, which reason, 1 to 4, and the state, alternative and context that it
+/// names, 0 where it names none.
+#[derive(Clone, Copy, Debug, Eq, PartialEq)]
+#[repr(C)]
+pub struct ReasonAnswer {
+    pub refusal: u32,
+    pub reason: u32,
+    pub state: u32,
+    pub alternative: u32,
+    pub context: u32,
+}
+
 /// A query on a context: the store is only read.
 pub type Query = unsafe extern "C" fn(*const u32, usize, *mut u32, usize, u32) -> Answer;
 
@@ -222,4 +234,17 @@ unsafe extern "C" {
         stops: *const u32,
         stops_len: usize,
     ) -> FiguresAnswer;
+
+    pub fn purse_why(
+        store: *const u32,
+        store_len: usize,
+        set: *const u32,
+        set_len: usize,
+        scratch: *mut u32,
+        scratch_len: usize,
+        stops: *const u32,
+        stops_len: usize,
+        output: *mut u32,
+        output_len: usize,
+    ) -> ReasonAnswer;
 }

@@ -35,6 +35,7 @@ mod doors;
 mod figures;
 mod names;
 pub mod raw;
+mod reason;
 mod refusal;
 
 pub use arena::ContextArena;
@@ -43,4 +44,5 @@ pub use config_set::AtnConfigSet;
 pub use figures::Figures;
 pub use names::{Alternative, ContextId, EMPTY_CONTEXT, EMPTY_RETURN_STATE, ReturnState, SemanticContextId};
 pub use raw::unique_alt_of as unique_alt;
+pub use reason::Reason;
 pub use refusal::Refusal;

@@ -7,13 +7,14 @@
 #![allow(unsafe_code)]
 
 use crate::doors::{
-    AltQuery, Answer, EntryAnswer, EntryQuery, FiguresAnswer, Query, SetQuery, Writer, purse_add,
-    purse_all_subsets_conflict, purse_all_subsets_equal, purse_close, purse_conflicting_alt_subsets,
-    purse_conflicting_alts, purse_figures, purse_fresh, purse_fresh_set, purse_has_empty_path,
-    purse_has_sll_conflict_terminating_prediction, purse_is_empty, purse_len, purse_merge, purse_parent,
-    purse_return_state, purse_single_viable_alt, purse_singleton, purse_unique_alt, purse_unique_alt_of,
+    AltQuery, Answer, EntryAnswer, EntryQuery, FiguresAnswer, Query, ReasonAnswer, SetQuery, Writer,
+    purse_add, purse_all_subsets_conflict, purse_all_subsets_equal, purse_close,
+    purse_conflicting_alt_subsets, purse_conflicting_alts, purse_figures, purse_fresh, purse_fresh_set,
+    purse_has_empty_path, purse_has_sll_conflict_terminating_prediction, purse_is_empty, purse_len,
+    purse_merge, purse_parent, purse_return_state, purse_single_viable_alt, purse_singleton,
+    purse_unique_alt, purse_unique_alt_of, purse_why,
 };
-use crate::{Alternative, AtnConfig, ContextId, Figures, Refusal, ReturnState};
+use crate::{Alternative, AtnConfig, ContextId, Figures, Reason, Refusal, ReturnState};
 
 /// Words of a store.
 pub const STORE_WORDS: usize = 5_634;
@@ -278,6 +279,45 @@ pub fn figures(store: &[u32], set: &[u32], scratch: &mut [u32], stops: &[u32]) -
     })
 }
 
+/// Why the verdict with these stop states is what it is. The alternatives of a clash are written over all 257
+/// words: how many, then these, rising; the rest 0, and all 0 where it is no clash. Refused as the verdict is;
+/// words of another length are refused with [`Refusal::WrongLength`], and a refusal leaves them.
+pub fn why(
+    store: &[u32],
+    set: &[u32],
+    scratch: &mut [u32],
+    stops: &[u32],
+    output: &mut [u32],
+) -> Result<Reason, Refusal> {
+    // SAFETY: each pointer and its length are those of one slice, which outlives the call; the scratch's and
+    // the output's are exclusive, and the others are only read.
+    let ReasonAnswer { refusal, reason, state, alternative, context } = unsafe {
+        purse_why(
+            store.as_ptr(),
+            store.len(),
+            set.as_ptr(),
+            set.len(),
+            scratch.as_mut_ptr(),
+            scratch.len(),
+            stops.as_ptr(),
+            stops.len(),
+            output.as_mut_ptr(),
+            output.len(),
+        )
+    };
+    done(refusal)?;
+    Ok(match reason {
+        1 => Reason::Stop,
+        2 => Reason::NoClash,
+        3 => Reason::One { state, alternative: Alternative(alternative) },
+        _ => {
+            let written = &output[1..=output[0] as usize];
+            let alternatives = written.iter().copied().map(Alternative).collect();
+            Reason::Clash { state, context: ContextId(context), alternatives }
+        }
+    })
+}
+
 fn ask(door: Query, store: &[u32], scratch: &mut [u32], context: ContextId) -> Result<u32, Refusal> {
     // SAFETY: each pointer and its length are those of one slice, which outlives the call; the store's is
     // only read, and the scratch's is exclusive. Every `Query` is a door of the archive.
@@ -468,6 +508,24 @@ mod tests {
                 )
             };
             assert_eq!(answer, FiguresAnswer { refusal, ..NO_FIGURES });
+            let mut output = [3; CONFLICT_WORDS];
+            // SAFETY: as above.
+            let answer = unsafe {
+                purse_why(
+                    words,
+                    store.len(),
+                    configs,
+                    SET_WORDS,
+                    at,
+                    SCRATCH_WORDS,
+                    stops.as_ptr(),
+                    stops.len(),
+                    output.as_mut_ptr(),
+                    output.len(),
+                )
+            };
+            let nothing = ReasonAnswer { refusal, reason: 0, state: 0, alternative: 0, context: 0 };
+            assert_eq!((answer, output), (nothing, [3; CONFLICT_WORDS]));
         }
     }
 

@@ -5,7 +5,7 @@ use std::collections::BTreeSet;
 use oracle::generate::{self, Made};
 use oracle::prediction::driver::Machine;
 use oracle::record::{Config, Kinds, Mode, Record, split};
-use oracle::reply::{Reply, Verdict};
+use oracle::reply::{Reason, Reply, Verdict};
 use pursecricket::{
     Alternative, AtnConfig, AtnConfigSet, ContextArena, ContextId, Refusal, ReturnState, SemanticContextId,
 };
@@ -46,6 +46,7 @@ impl Port {
                 return Ok(Reply::Stops(stops.len()));
             }
             Record::Verdict => return self.verdict().map(Reply::Verdict),
+            Record::Why => return set.why(arena, stops).map(|why| Reply::Reason(said(why))),
         };
         context.map(|context| Reply::Context(context.0))
     }
@@ -77,6 +78,18 @@ fn given(config: Config) -> AtnConfig {
         semantic_context: SemanticContextId(config.semantic),
         reaches_into_outer_context: config.reach,
         semantic_provenance_and_flags: config.provenance,
+    }
+}
+
+fn said(why: pursecricket::Reason) -> Reason {
+    match why {
+        pursecricket::Reason::Stop => Reason::Stop,
+        pursecricket::Reason::NoClash => Reason::NoClash,
+        pursecricket::Reason::One { state, alternative } => Reason::One { state, alternative: alternative.0 },
+        pursecricket::Reason::Clash { state, context, alternatives } => {
+            let alternatives = alternatives.into_iter().map(|alternative| alternative.0).collect();
+            Reason::Clash { state, context: context.0, alternatives }
+        }
     }
 }
 
