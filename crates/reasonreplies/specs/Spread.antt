@@ -1,10 +1,10 @@
--- Bytes and numbers laid one after the other, and words read back. Nothing here has to be believed.
+-- Bytes and numbers laid one after the other. Nothing here has to be believed.
 use mathlib.Core.Path.{_≡_, refl, sym, ap, _∙_}
 use mathlib.Core.List.{List, [], _∷_, _++_, append-assoc}
-use Prim.Native.Nat.{ℕ, _+_, _*_, _-_, _<_, _≤_}
+use Prim.Native.Nat.{ℕ, _+_, _*_, _<_, _≤_}
 use native.Mathlib.Omega.{arith}
 use native.Mathlib.Numerals.{add-one}
-use lib.ListN.{length, getD, take, drop, length-append, length-drop}
+use lib.ListN.{length, getD, take, length-append}
 use lib.Seq.{take-suc, take-all, length-take-le}
 use Rattle.lines.specs.Laid.{Wrote}
 use Rattle.lines.specs.Laid.Laws.{wrote-none, wrote-then, wrote-length}
@@ -68,12 +68,3 @@ spread-room xs k {b} {i} {j} {u} h r v =
 
 pub spread-all : (xs : List ℕ) (k : ℕ) {b : List ℕ} {i j : ℕ} {u : List ℕ} → length xs ≤ k → Spread b i (take k xs) j u → Spread b i xs j u
 spread-all xs k {b} {i} {j} {u} h v = rw (take-all k xs h) at v
-
--- ---- words whose first says how many of the others there are
-
-module _ (t : List ℕ) (sized : length t ≡ 257) where
-  pub all-written : 256 < getD t 0 0 → take (257 - 1) (drop 1 t) ≡ take (getD t 0 0) (drop 1 t)
-  all-written h = take-all 256 (drop 1 t) (omega (arith, length-drop 1 t)) ∙ sym (take-all (getD t 0 0) (drop 1 t) (omega (arith, length-drop 1 t)))
-
-  pub some-written : take (1 + getD t 0 0 - 1) (drop 1 t) ≡ take (getD t 0 0) (drop 1 t)
-  some-written = let e : 1 + getD t 0 0 - 1 ≡ getD t 0 0 = omega arith in ap (λ (n : ℕ). take n (drop 1 t)) e

@@ -71,15 +71,19 @@ figures-line b n x y t v₁ v₂ v₃ v₄ v₅ v₆ =
 abbrev pub stopLength : ℕ
 stopLength = 65
 
-module _ (t : List ℕ) (sized : length t ≡ stopLength) where
-  pub held-all : 64 < getD t 0 0 → take (65 - 1) (drop 1 t) ≡ heldStops t
-  unfolding heldStops
+-- words whose first says how many of the others there are
+module _ (t : List ℕ) where
+  pub held-all : length t ≤ getD t 0 0 → take (length t - 1) (drop 1 t) ≡ take (getD t 0 0) (drop 1 t)
   held-all h =
-      take-all 64 (drop 1 t) (omega (arith, length-drop 1 t)) ∙ sym (take-all (getD t 0 0) (drop 1 t) (omega (arith, length-drop 1 t)))
+      take-all (length t - 1) (drop 1 t) (omega (arith, length-drop 1 t)) ∙ sym (take-all (getD t 0 0) (drop 1 t) (omega (arith, length-drop 1 t)))
 
-  pub held-some : take (1 + getD t 0 0 - 1) (drop 1 t) ≡ heldStops t
-  unfolding heldStops
+  pub held-some : take (1 + getD t 0 0 - 1) (drop 1 t) ≡ take (getD t 0 0) (drop 1 t)
   held-some = let e : 1 + getD t 0 0 - 1 ≡ getD t 0 0 = omega arith in ap (λ (n : ℕ). take n (drop 1 t)) e
+
+-- of the stop states
+pub held-stops : (t s : List ℕ) → s ≡ take (getD t 0 0) (drop 1 t) → s ≡ heldStops t
+unfolding heldStops
+held-stops t s e = e
 
 -- ---- the call, with states that are those held
 

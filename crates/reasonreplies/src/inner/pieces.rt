@@ -1,18 +1,10 @@
 // Pieces of the reason's line.
 use lines::inner::digits::put_byte;
 use verdictreplies::inner::verdict::put_number;
-ghost use mathlib.Core.Path.{_≡_};
-ghost use Prim.Native.Nat.{_+_, _*_, _-_, _≤_};
-ghost use lib.ListN.{drop, getD, length, take};
-ghost use Rattle.outputs.specs.Outputs.{altsLength};
+ghost use Prim.Native.Nat.{_+_, _*_, _≤_};
+ghost use lib.ListN.{length};
 ghost use Rattle.lines.specs.Laid.{Wrote};
 ghost use Rattle.reasonreplies.specs.Spread.{Spread};
-
-// Alternatives at most.
-const MOST_ALTS: usize = 256;
-
-// Words of a list of alternatives.
-pub const ALTS_WORDS: usize = 257;
 
 // Lays the bytes given.
 pub fn put_bytes(out: &mut [u8], at: usize, bytes: &[u8]) -> usize
@@ -40,17 +32,4 @@ pub fn put_numbers(out: &mut [u8], at: usize, numbers: &[u32]) -> usize
         i += 1;
     }
     next
-}
-
-// Where the alternatives written end; a number above 256 has them all.
-pub fn written_to(alts: &[u32]) -> usize
-    requires { ⌜ length (now alts) ≡ altsLength ⌝ }
-    ensures { λ r. ⌜ (1 ≤ r) × (r ≤ length (now (alts .entry)))
-        × (take (r - 1) (drop 1 (now (alts .entry))) ≡ take (getD (now (alts .entry)) 0 0) (drop 1 (now (alts .entry)))) ⌝ }
-{
-    let count = alts[0] as usize;
-    if MOST_ALTS < count {
-        return ALTS_WORDS;
-    }
-    1 + count
 }

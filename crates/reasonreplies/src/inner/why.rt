@@ -1,8 +1,6 @@
 // Why the verdict is what it is, laid out.
-use crate::inner::pieces::ALTS_WORDS;
 use crate::inner::pieces::put_bytes;
 use crate::inner::pieces::put_numbers;
-use crate::inner::pieces::written_to;
 use lines::inner::digits::put_byte;
 use lines::inner::numbers::lay_number;
 use reasons::Reason;
@@ -19,6 +17,9 @@ ghost use Rattle.lines.specs.Laid.{Wrote};
 ghost use Rattle.lines.specs.Lines.{lineBytes, reasonLine};
 ghost use Rattle.replies.specs.Replies.{heldStops, verdictLineOf};
 ghost use Rattle.verdictreplies.specs.Figured.{Told, stopLength};
+
+// Words of a list of alternatives: their number, then these.
+const ALTS_WORDS: usize = 257;
 
 // Lays the line of a state that has only one alternative.
 fn lay_lone(out: &mut [u8], state: u32, alternative: u32) -> usize
@@ -37,7 +38,7 @@ fn lay_clash(out: &mut [u8], state: u32, context: u32, alts: &[u32]) -> usize
     ensures { λ r. ⌜ Wrote (now (out .entry)) 0
         (reasonLine (clash state context (take (getD (now (alts .entry)) 0 0) (drop 1 (now (alts .entry)))))) r (now (out .exit)) ⌝ }
 {
-    let end = written_to(alts);
+    let end = held_to(alts);
     let at = put_bytes(out, 0, b"W clash");
     let at = put_number(out, at, state);
     let at = put_number(out, at, context);

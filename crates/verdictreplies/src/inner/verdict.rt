@@ -1,15 +1,13 @@
 // The figures of the set, laid out.
 use deciding::inner::single::OneAlt;
-use deciding::inner::verdict::MOST_STOPS;
 use figures::Figures;
 use figures::Told;
 use lines::inner::digits::put_byte;
 use lines::inner::digits::put_spaced;
 use lines::inner::numbers::lay_number;
-use setreplies::inner::stops::STOP_WORDS;
 ghost use mathlib.Core.Path.{_≡_};
 ghost use Prim.Native.Nat.{_+_, _-_, _≤_};
-ghost use lib.ListN.{drop, length, take};
+ghost use lib.ListN.{drop, getD, length, take};
 ghost use Rattle.groups.specs.Answers.{none};
 ghost use Rattle.deciding.specs.OneAlt.{oneAlt};
 ghost use Rattle.verdicts.specs.Calls.{summary};
@@ -74,14 +72,15 @@ fn lay_figures(out: &mut [u8], all: Figures) -> usize
     put_byte(out, at, b'\n')
 }
 
-// Where the states held end; a number above 64 holds them all.
-pub fn held_to(stops: &[u32]) -> usize
-    requires { ⌜ length (now stops) ≡ stopLength ⌝ }
-    ensures { λ r. ⌜ (1 ≤ r) × (r ≤ length (now (stops .entry))) × (take (r - 1) (drop 1 (now (stops .entry))) ≡ heldStops (now (stops .entry))) ⌝ }
+// Where a list ends whose first word is its length; a number above that of the other words has them all.
+pub fn held_to(list: &[u32]) -> usize
+    requires { ⌜ 1 ≤ length (now list) ⌝ }
+    ensures { λ r. ⌜ (1 ≤ r) × (r ≤ length (now (list .entry)))
+        × (take (r - 1) (drop 1 (now (list .entry))) ≡ take (getD (now (list .entry)) 0 0) (drop 1 (now (list .entry)))) ⌝ }
 {
-    let count = stops[0] as usize;
-    if MOST_STOPS < count {
-        return STOP_WORDS;
+    let count = list[0] as usize;
+    if list.len() <= count {
+        return list.len();
     }
     1 + count
 }

@@ -67,8 +67,9 @@ returns-4 c =
 
 returns-5 : tie.Need-returns-5
 returns-5 c =
-    let args = c .before .before .before .before .before .before .before .before .before .before .before .before .before .before .before .before .before .before .before .before .before .before .before .args in
-    let call5 = c .before .before .before .before .before .before .before .before .before .before .before .before .before .before .before .before .call5 in
+    let back = c .before .before .before .before .before .before .before .before .before .before .before .before in
+    let args = back .before .before .before .before .before .before .before .before .before .before .before .args in
+    let call5 = back .before .before .before .before .call5 in
     let run-set-record = c .before .before .before .before .before .before .before .before .run-set-record in
     call-set (args .out .now) (args .bytes .now) (args .store .now) (args .set .now) (args .stops .now) (args .scratch .now) (args .call) _ _
     (call5 .given .0 .0) (call5 .given .1) _ _ _ (run-set-record .ensures)

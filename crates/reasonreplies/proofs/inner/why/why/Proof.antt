@@ -2,6 +2,7 @@
 use borrow.Author.Needs.{needs}
 use mathlib.Core.Path.{refl}
 use Rattle.layout.specs.Layout.{blank}
+use Rattle.verdictreplies.specs.Figured.{held-stops}
 use Rattle.reasonreplies.specs.Because.{why-told}
 use Rattle.reasonreplies.proofs.inner.why.why.Statement.{statement}
 use Rattle.reasonreplies.proofs.inner.why.why.Tie as tie
@@ -13,7 +14,7 @@ returns c =
     let why = c .before .before .before .before .before .before .before .before .why in
     let held-to = c .before .before .before .before .before .before .before .before .before .before .before .before .held-to in
     let lay-reason = c .before .before .lay-reason in
-    why-told (args .out .now) _ _ _ _ _ (why .result) _ _ _ _ _ (why .ensures) (held-to .ensures .2) refl (lay-reason .ensures)
+    why-told (args .out .now) _ _ _ _ _ (why .result) _ _ _ _ _ (why .ensures) (held-stops (args .stops .now) _ (held-to .ensures .2)) refl (lay-reason .ensures)
 
 pub why-spec : {M : Type 1} → statement M
 why-spec =

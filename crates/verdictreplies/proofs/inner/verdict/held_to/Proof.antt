@@ -1,4 +1,4 @@
--- By the number: above 64 all are held.
+-- By the number: one above that of the other words has them all.
 use native.Mathlib.Omega.{arith}
 use Rattle.verdictreplies.specs.Figured.{held-all, held-some}
 use Rattle.verdictreplies.proofs.inner.verdict.held_to.Statement.{statement}
@@ -16,18 +16,15 @@ returns : tie.Need-returns
 returns c =
     let pre = c .before .before .pre in
     let args = c .before .before .args in
-    (omega arith, omega arith, held-all (args .stops .now) pre (c .if1 .taken))
+    (omega arith, omega arith, held-all (args .list .now) (c .if1 .taken))
 
 add-result : tie.Need-add-result
-add-result c =
-    let pre = c .before .before .pre in
-    omega arith
+add-result c = omega arith
 
 returns-2 : tie.Need-returns-2
 returns-2 c =
-    let pre = c .before .before .pre in
     let args = c .before .before .args in
-    (omega arith, omega arith, held-some (args .stops .now) pre)
+    (omega arith, omega arith, held-some (args .list .now))
 
 pub held-to-spec : {M : Type 1} → statement M
 held-to-spec =

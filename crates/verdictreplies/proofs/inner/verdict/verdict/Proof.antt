@@ -1,14 +1,14 @@
 -- The states held, the call, and its line.
 use borrow.Author.Needs.{needs}
 use native.Mathlib.Omega.{arith}
-use Rattle.verdictreplies.specs.Figured.{told-all, told-refused}
+use Rattle.verdictreplies.specs.Figured.{held-stops, told-all, told-refused}
 use Rattle.verdictreplies.proofs.inner.verdict.verdict.Statement.{statement}
 use Rattle.verdictreplies.proofs.inner.verdict.verdict.Tie as tie
 
 held-to-requires : tie.Need-held-to-requires
 held-to-requires c κs =
     let pre = c .before .before .before .before .before .pre in
-    pre .1
+    omega (arith, pre .1)
 
 sub-figures : tie.Need-sub-figures
 sub-figures c =
@@ -42,7 +42,7 @@ returns c =
     let held-to = c .before .before .before .before .before .before .before .before .before .before .before .before .held-to in
     let told = c .before .before .before .before .before .told in
     let lay-figures = c .before .before .lay-figures in
-    told-all (args .out .now) _ _ _ _ _ (figures .result) _ _ _ (figures .ensures) (held-to .ensures .2) (told .given .0 .0) (told .given .1) (lay-figures .ensures)
+    told-all (args .out .now) _ _ _ _ _ (figures .result) _ _ _ (figures .ensures) (held-stops (args .stops .now) _ (held-to .ensures .2)) (told .given .0 .0) (told .given .1) (lay-figures .ensures)
 
 returns-2 : tie.Need-returns-2
 returns-2 c =
@@ -53,7 +53,7 @@ returns-2 c =
     let told2 = c .before .before .before .before .before .before .told2 in
     let refusal-number = c .before .before .before .refusal-number in
     let lay-number = c .before .before .lay-number in
-    told-refused (args .out .now) _ _ _ _ _ (figures .result) _ _ _ (figures .ensures) (held-to .ensures .2) (told2 .given .0 .0) (told2 .given .1) _
+    told-refused (args .out .now) _ _ _ _ _ (figures .result) _ _ _ (figures .ensures) (held-stops (args .stops .now) _ (held-to .ensures .2)) (told2 .given .0 .0) (told2 .given .1) _
     (refusal-number .ensures) (lay-number .ensures)
 
 pub verdict-spec : {M : Type 1} → statement M
