@@ -27,7 +27,8 @@ enum purse_refusal {
     PURSE_FULL_STORE = 6,
     PURSE_READ_ONLY_SET = 7,
     PURSE_FULL_SET = 8,
-    PURSE_TOO_MANY_STOPS = 10
+    PURSE_TOO_MANY_STOPS = 10,
+    PURSE_TOO_MUCH_WORK = 12
 };
 
 /* Modes of merges and of sets: 0 is full-context, every other number by wildcard. */
@@ -41,6 +42,14 @@ typedef struct {
     uint32_t refusal;
     uint32_t value;
 } purse_answer;
+
+/* A refusal's number; where that is 0, the value, and how many merges the call counted: each that is neither of equal contexts nor answered from
+   the first 1,024 results of the call. More than 65,536 are refused. */
+typedef struct {
+    uint32_t refusal;
+    uint32_t value;
+    uint32_t merges;
+} purse_counted_answer;
 
 /* A refusal's number; where that is 0, 1 and the value, or 0 where there is none. */
 typedef struct {
@@ -71,6 +80,25 @@ typedef struct {
     uint32_t verdict;
 } purse_figures_answer;
 
+/* Why a verdict is what it is: the first of these that holds, in this order. Stop and clash go with yes, the others with no. */
+enum purse_reason {
+    PURSE_REFUSED = 0,
+    PURSE_STOP = 1,  /* every config is at a stop, an empty set included */
+    PURSE_NONE = 2,  /* no subset holds two alternatives */
+    PURSE_ONE = 3,   /* a state has only one alternative: the first such state in set order */
+    PURSE_CLASH = 4  /* the first subset that holds two alternatives or more */
+};
+
+/* A refusal's number; where that is 0, which reason, and what it names: the state of one or of a clash, the alternative of one, the context of a
+   clash; 0 where it names none. */
+typedef struct {
+    uint32_t refusal;
+    uint32_t reason;
+    uint32_t state;
+    uint32_t alternative;
+    uint32_t context;
+} purse_reason_answer;
+
 /* Makes the words a store of context 0 alone; answers a refusal's number. */
 uint32_t purse_fresh(uint32_t *store, size_t store_len);
 
@@ -78,7 +106,8 @@ uint32_t purse_fresh(uint32_t *store, size_t store_len);
 purse_answer purse_singleton(uint32_t *store, size_t store_len, uint32_t *scratch, size_t scratch_len, uint32_t parent, uint64_t state);
 
 /* The context of the merge of `left` and `right`. */
-purse_answer purse_merge(uint32_t *store, size_t store_len, uint32_t *scratch, size_t scratch_len, uint32_t left, uint32_t right, uint32_t mode);
+purse_counted_answer purse_merge(uint32_t *store, size_t store_len, uint32_t *scratch, size_t scratch_len, uint32_t left, uint32_t right,
+                                 uint32_t mode);
 
 /* How many entries a context has. */
 purse_answer purse_len(const uint32_t *store, size_t store_len, uint32_t *scratch, size_t scratch_len, uint32_t context);
@@ -99,8 +128,8 @@ purse_entry_answer purse_parent(const uint32_t *store, size_t store_len, uint32_
 uint32_t purse_fresh_set(uint32_t *set, size_t set_len, uint32_t mode);
 
 /* Adds a config, given by its six words: 1 where it was inserted, 0 where it was merged with the one that has its key. */
-purse_answer purse_add(uint32_t *store, size_t store_len, uint32_t *set, size_t set_len, uint32_t *scratch, size_t scratch_len, uint32_t state,
-                       uint32_t alternative, uint32_t context, uint32_t semantic, uint32_t reach, uint32_t provenance);
+purse_counted_answer purse_add(uint32_t *store, size_t store_len, uint32_t *set, size_t set_len, uint32_t *scratch, size_t scratch_len,
+                               uint32_t state, uint32_t alternative, uint32_t context, uint32_t semantic, uint32_t reach, uint32_t provenance);
 
 /* Makes a set read-only; answers a refusal's number. */
 uint32_t purse_close(const uint32_t *store, size_t store_len, uint32_t *set, size_t set_len, uint32_t *scratch, size_t scratch_len);
@@ -136,5 +165,10 @@ uint32_t purse_conflicting_alts(const uint32_t *store, size_t store_len, const u
 /* How many subsets, unique and viable alternative and the verdict with these stop states, by one check of store and set. */
 purse_figures_answer purse_figures(const uint32_t *store, size_t store_len, const uint32_t *set, size_t set_len, uint32_t *scratch,
                                    size_t scratch_len, const uint32_t *stops, size_t stops_len);
+
+/* Why the verdict with these stop states is what it is. Writes the alternatives of a clash over all 257 words: how many, then these, rising; the
+   rest 0, and all 0 where it is no clash. A refusal leaves the words. */
+purse_reason_answer purse_why(const uint32_t *store, size_t store_len, const uint32_t *set, size_t set_len, uint32_t *scratch, size_t scratch_len,
+                              const uint32_t *stops, size_t stops_len, uint32_t *output, size_t output_len);
 
 #endif

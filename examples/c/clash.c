@@ -6,7 +6,7 @@
 static uint32_t store[PURSE_STORE_WORDS], set[PURSE_SET_WORDS], scratch[PURSE_SCRATCH_WORDS];
 static uint32_t subsets[PURSE_SUBSET_WORDS], alternatives[PURSE_CONFLICT_WORDS];
 
-static purse_answer add(uint32_t state, uint32_t alternative, uint32_t context) {
+static purse_counted_answer add(uint32_t state, uint32_t alternative, uint32_t context) {
     return purse_add(store, PURSE_STORE_WORDS, set, PURSE_SET_WORDS, scratch, PURSE_SCRATCH_WORDS, state, alternative, context, 0, 0, 0);
 }
 
@@ -19,18 +19,22 @@ int main(void) {
     purse_fresh_set(set, PURSE_SET_WORDS, PURSE_FULL);
 
     purse_answer over = purse_singleton(store, PURSE_STORE_WORDS, scratch, PURSE_SCRATCH_WORDS, 0, 42);
-    purse_answer both = purse_merge(store, PURSE_STORE_WORDS, scratch, PURSE_SCRATCH_WORDS, over.value, 0, PURSE_FULL);
+    purse_counted_answer both = purse_merge(store, PURSE_STORE_WORDS, scratch, PURSE_SCRATCH_WORDS, over.value, 0, PURSE_FULL);
     purse_answer size = purse_len(store, PURSE_STORE_WORDS, scratch, PURSE_SCRATCH_WORDS, both.value);
     purse_entry_answer state = purse_return_state(store, PURSE_STORE_WORDS, scratch, PURSE_SCRATCH_WORDS, both.value, 0);
-    printf("42 over 0 is context %u; merged with 0 it is context %u, with %u entries, the first %llu\n", over.value, both.value, size.value,
-           (unsigned long long)state.value);
+    printf("42 over 0 is context %u; merged with 0 it is context %u, with %u entries, the first %llu; merges counted: %u\n", over.value, both.value,
+           size.value, (unsigned long long)state.value, both.merges);
 
     printf("state 7 with alternatives 1 and 2 in one context, inserted: %u", add(7, 1, over.value).value);
     printf(" %u", add(7, 2, over.value).value);
     printf("; verdict: %u\n", verdict());
     uint32_t refusal = purse_conflicting_alts(store, PURSE_STORE_WORDS, set, PURSE_SET_WORDS, scratch, PURSE_SCRATCH_WORDS, alternatives, PURSE_CONFLICT_WORDS);
     printf("refusal %u; %u conflicting alternatives: %u %u\n", refusal, alternatives[0], alternatives[1], alternatives[2]);
-    printf("alternative 2 again, in a wider context, merged: %u", add(7, 2, both.value).value);
+    purse_reason_answer why = purse_why(store, PURSE_STORE_WORDS, set, PURSE_SET_WORDS, scratch, PURSE_SCRATCH_WORDS, 0, 0, alternatives, PURSE_CONFLICT_WORDS);
+    printf("why: %s in state %u and context %u, of %u alternatives: %u %u\n", why.reason == PURSE_CLASH ? "a clash" : "no clash", why.state, why.context,
+           alternatives[0], alternatives[1], alternatives[2]);
+    purse_counted_answer again = add(7, 2, both.value);
+    printf("alternative 2 again, in a wider context, merged: %u, merges counted: %u", again.value, again.merges);
     printf("; verdict: %u\n", verdict());
 
     purse_entry_answer unique = purse_unique_alt(store, PURSE_STORE_WORDS, set, PURSE_SET_WORDS, scratch, PURSE_SCRATCH_WORDS);

@@ -4,6 +4,7 @@ use mathlib.Core.Bool.{true, false}
 use Prim.Native.Nat.{ℕ}
 use Rattle.store.specs.Calls.{Reply, refused, done, context, count, state, holds, none}
 use Rattle.answers.specs.declared.structs.Answer.{Answer}
+use Rattle.answers.specs.declared.structs.CountedAnswer.{CountedAnswer}
 use Rattle.answers.specs.declared.structs.EntryAnswer.{EntryAnswer}
 
 abbrev pub entry : ℕ → ℕ → ℕ → EntryAnswer
@@ -26,3 +27,7 @@ answerOf r = record { refusal = entryOf r .refusal; value = entryOf r .value }
 
 abbrev pub numberOf : Reply → ℕ
 numberOf r = entryOf r .refusal
+
+-- and how many merges were counted
+abbrev pub withMerges : Answer → ℕ → CountedAnswer
+withMerges a n = record { refusal = a .refusal; value = a .value; merges = n }

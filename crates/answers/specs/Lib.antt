@@ -1,5 +1,6 @@
--- What crosses the border to C. To believe: Answers, SetAnswers, VerdictAnswers, FiguresAnswers.
+-- What crosses the border to C. To believe: Answers, SetAnswers, VerdictAnswers, FiguresAnswers, ReasonAnswers.
 pub mod Answers
 pub mod SetAnswers
 pub mod VerdictAnswers
 pub mod FiguresAnswers
+pub mod ReasonAnswers

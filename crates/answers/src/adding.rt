@@ -1,10 +1,11 @@
 // What stands at the border for the answers of the calls on a set.
-use crate::structs::Answer;
-use crate::structs::refusal_answer;
+use crate::structs::CountedAnswer;
+use crate::structs::refusal_counted;
 use configs::Added;
 use configs::Settled;
 ghost use mathlib.Core.Path.{_≡_};
-ghost use Rattle.configs.specs.Replies.{addedReply, settled};
+ghost use Rattle.configs.specs.Replies.{addedReply, mergesOf, settled};
+ghost use Rattle.answers.specs.Answers.{withMerges};
 ghost use Rattle.answers.specs.SetAnswers.{setAnswerOf, setNumberOf};
 
 // The number for a set made or closed: 0 where it was.
@@ -17,19 +18,21 @@ pub fn settled_number(answer: Settled) -> u32
     }
 }
 
-// The answer to an added config: 1 inserted, 0 merged.
-pub fn added_answer(answer: Added) -> Answer
-    ensures { λ r. ⌜ r ≡ setAnswerOf (addedReply answer) ⌝ }
+// The answer to an added config: 1 inserted, 0 merged, after so many merges.
+pub fn added_answer(answer: Added) -> CountedAnswer
+    ensures { λ r. ⌜ r ≡ withMerges (setAnswerOf (addedReply answer)) (mergesOf answer) ⌝ }
 {
     match answer {
-        Added::Inserted => Answer {
+        Added::Inserted => CountedAnswer {
             refusal: 0,
             value: 1,
+            merges: 0,
         },
-        Added::Merged => Answer {
+        Added::Merged(merges) => CountedAnswer {
             refusal: 0,
             value: 0,
+            merges: merges,
         },
-        Added::Refused(refusal) => refusal_answer(refusal),
+        Added::Refused(refusal) => refusal_counted(refusal),
     }
 }

@@ -2,6 +2,7 @@
 mod adding;
 mod figuring;
 mod judging;
+mod reasoning;
 mod stores;
 mod structs;
 
@@ -13,11 +14,15 @@ pub use figuring::one_answer;
 pub use judging::alt_answer;
 pub use judging::decided_answer;
 pub use judging::written_number;
+pub use reasoning::ReasonAnswer;
+pub use reasoning::reason_answer;
 pub use stores::count_answer;
 pub use stores::fresh_number;
+pub use stores::merged_answer;
 pub use stores::number_answer;
 pub use stores::parent_answer;
 pub use stores::state_answer;
 pub use stores::truth_answer;
 pub use structs::Answer;
+pub use structs::CountedAnswer;
 pub use structs::EntryAnswer;

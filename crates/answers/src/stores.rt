@@ -1,8 +1,11 @@
 // What stands at the border for the answers of the calls on a store.
 use crate::structs::Answer;
+use crate::structs::CountedAnswer;
 use crate::structs::EntryAnswer;
 use crate::structs::refusal_answer;
+use crate::structs::refusal_counted;
 use crate::structs::refusal_entry;
+use contexts::Merged;
 use interning::Numbered;
 use queries::Counted;
 use queries::Decided;
@@ -13,7 +16,9 @@ ghost use mathlib.Core.Path.{_≡_};
 ghost use Rattle.store.specs.Renewed.{renewed};
 ghost use Rattle.interning.specs.Replies.{numbered};
 ghost use Rattle.queries.specs.Answers.{decided, counted, parentFound, stateFound};
-ghost use Rattle.answers.specs.Answers.{answerOf, entryOf, numberOf};
+ghost use mathlib.Core.List.{[]};
+ghost use Rattle.contexts.specs.Replies.{merged};
+ghost use Rattle.answers.specs.Answers.{answerOf, entryOf, numberOf, withMerges};
 
 // The number for a store made afresh: 0 where it was.
 pub fn fresh_number(answer: Renewed) -> u32
@@ -22,6 +27,20 @@ pub fn fresh_number(answer: Renewed) -> u32
     match answer {
         Renewed::Done => 0,
         Renewed::Refused(refusal) => words::refusal_number(refusal),
+    }
+}
+
+// The answer to a merge: a context's number, after so many merges.
+pub fn merged_answer(answer: Merged) -> CountedAnswer
+    ensures { λ r. ⌜ r ≡ withMerges (answerOf (merged answer [] [] .reply)) (merged answer [] [] .merges) ⌝ }
+{
+    match answer {
+        Merged::Number(context, merges) => CountedAnswer {
+            refusal: 0,
+            value: context.0,
+            merges: merges,
+        },
+        Merged::Refused(refusal) => refusal_counted(refusal),
     }
 }
 

@@ -18,6 +18,14 @@ pub struct EntryAnswer {
     pub value: u64,
 }
 
+// A refusal's number, 0 where there is none; then the value, and how many merges were counted.
+#[repr(C)]
+pub struct CountedAnswer {
+    pub refusal: u32,
+    pub value: u32,
+    pub merges: u32,
+}
+
 // A refusal carries its number and nothing else.
 pub fn refusal_answer(refusal: Refusal) -> Answer
     ensures { λ r. ⌜ (r .refusal ≡ number refusal) × (r .value ≡ 0) ⌝ }
@@ -36,5 +44,16 @@ pub fn refusal_entry(refusal: Refusal) -> EntryAnswer
         refusal: words::refusal_number(refusal),
         found: 0,
         value: 0,
+    }
+}
+
+// The same of an answer that counts merges.
+pub fn refusal_counted(refusal: Refusal) -> CountedAnswer
+    ensures { λ r. ⌜ (r .refusal ≡ number refusal) × (r .value ≡ 0) × (r .merges ≡ 0) ⌝ }
+{
+    CountedAnswer {
+        refusal: words::refusal_number(refusal),
+        value: 0,
+        merges: 0,
     }
 }

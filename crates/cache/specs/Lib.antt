@@ -1,6 +1,8 @@
--- The merge cache: results as words, what lookup and keeping leave, and when the kept results are right.
-pub mod Packed
+-- The merge cache: its words and what code leaves there (Cache, Recalled), the chains (Chain, Search), what is written (Keeping), and frames.
 pub mod Cache
 pub mod Recalled
-pub mod Right
+pub mod Keys
+pub mod Chain
+pub mod Search
+pub mod Frames
 pub mod Keeping

@@ -1,11 +1,22 @@
-// Where the cache stands in the scratch's 16,384 words, and how many results it keeps.
+// Where the cache stands in the scratch's 16,384 words, and its two ceilings.
 
-pub const CACHE: usize = 1792;
+// A word for each result, in order of completion: kind, sides and context in 1, 9, 9 and 9 bits.
+pub const RESULTS: usize = 1792;
 
-pub const CACHE_WORDS: usize = 6144;
+// 1 + the place of the next older result of the same bucket, or 0.
+pub const LINKS: usize = 2816;
+
+// 1 + the place of a bucket's newest result, or 0.
+pub const HEADS: usize = 3840;
+
+pub const BUCKETS: usize = 1024;
 
 // The word that counts the results kept.
-pub const CACHE_COUNT: usize = 16336;
+pub const KEPT: usize = 16336;
 
-// The first so many results are kept, in order of completion.
-pub const MOST_RESULTS: u32 = 4096;
+// The word that counts the merges.
+pub const MERGES: usize = 16337;
+
+pub const MOST_RESULTS: u32 = 1024;
+
+pub const MOST_MERGES: u32 = 65536;

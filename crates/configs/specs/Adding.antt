@@ -10,15 +10,15 @@ use Rattle.arena.specs.Place.{mergeS}
 use Rattle.layout.specs.Layout.{count as contexts}
 use Rattle.layout.specs.Decode.{storeOf}
 use Rattle.layout.specs.Encode.{wordsOf}
-use Rattle.encoding.specs.Decide.{fits}
-use Rattle.store.specs.Calls.{zeros}
+use Rattle.work.specs.Counted.{Outcome, counting, countOf}
+use Rattle.store.specs.Calls.{zeros, tooMuchWork, noRoom}
 use Rattle.sets.specs.Config.{Config}
 use Rattle.sets.specs.Lists.{any}
 use Rattle.sets.specs.Layout.{mostConfigs, configAt, configCount, flag}
 use Rattle.sets.specs.Sets.{sameKey, withConfigs, joinedAll, addTo}
 use Rattle.sets.specs.Words.{setWords, setOf}
 use Rattle.store.specs.Checks.{given, unless}
-use Rattle.sets.specs.Calls.{SetReply, refused, added, SetLeft, setLeft, refusal}
+use Rattle.sets.specs.Calls.{SetReply, refused, added, SetLeft, setLeftAfter, addWork, refusal}
 use Rattle.setcheck.specs.Opened.{ReadySet}
 
 -- the config goes last
@@ -27,23 +27,26 @@ insertCall v x =
     unless (given 8 (leb mostConfigs (length (setOf v .configs))) ∷ []) (λ n. (refused n, v))
     (added 1, setWords (withConfigs (setOf v) (setOf v .configs ++ (x ∷ []))))
 
--- the config is joined to the one at place i, whose context is merged with its own to P
-unfoldable pub joinTo : List ℕ → List ℕ → Config → ℕ × Store → SetLeft
-joinTo w v x P =
-    unless (given 6 (not (fits (P .1))) ∷ []) (refusal w v zeros)
-    (setLeft (added 0) (wordsOf (P .1)) (setWords (withConfigs (setOf v) (joinedAll x (P .0) (setOf v .configs)))) zeros)
+-- the config is joined to the one at place i, whose context is merged with its own to P, with the outcome o
+unfoldable pub joinTo : List ℕ → List ℕ → Config → Outcome ℕ → ℕ × Store → SetLeft
+joinTo w v x o P =
+    unless (tooMuchWork o ∷ noRoom (P .1) ∷ []) (refusal w v zeros)
+    (setLeftAfter (countOf o) (added 0) (wordsOf (P .1)) (setWords (withConfigs (setOf v) (joinedAll x (P .0) (setOf v .configs)))) zeros)
 
 abbrev pub joinCall : List ℕ → List ℕ → ℕ → Config → SetLeft
-joinCall w v i x = joinTo w v x (mergeS (not (flag 1 v)) (storeOf w) (configAt v i .context) (x .context))
+joinCall w v i x =
+    let full = not (flag 1 v) in
+    joinTo w v x (counting full (storeOf w) (configAt v i .context) (x .context)) (mergeS full (storeOf w) (configAt v i .context) (x .context))
 
 -- both, after the checks 2, 1, 3, 7 and 4
 unfoldable pub addRest : List ℕ → List ℕ → Config → SetLeft
 addRest w v x =
     let A = addTo (storeOf w) (setOf v) x in
     unless
-    (given 8 (not (any (sameKey x) (setOf v .configs)) && leb mostConfigs (length (setOf v .configs))) ∷ given 6 (not (fits (A .store))) ∷ [])
+    (given 8 (not (any (sameKey x) (setOf v .configs)) && leb mostConfigs (length (setOf v .configs)))
+    ∷ tooMuchWork (addWork (storeOf w) (setOf v) x) ∷ noRoom (A .store) ∷ [])
     (refusal w v zeros)
-    (setLeft (added (A .answer)) (wordsOf (A .store)) (setWords (A .set)) zeros)
+    (setLeftAfter (countOf (addWork (storeOf w) (setOf v) x)) (added (A .answer)) (wordsOf (A .store)) (setWords (A .set)) zeros)
 
 -- ---- what each part is given
 

@@ -16,7 +16,8 @@ use Rattle.layout.specs.Encode.{wordsOf}
 use Rattle.encoding.specs.Decide.{fits}
 use Rattle.encoding.specs.Decide.Laws.{true-fits}
 use Rattle.store.specs.Admit.{cleared}
-use Rattle.store.specs.Calls.{zeros}
+use Rattle.work.specs.Counted.{Outcome, done, standing, counting, tooMuch, countOf}
+use Rattle.store.specs.Calls.{zeros, tooMuchWork, noRoom}
 use Rattle.store.specs.declared.inner.admit.Admitted.the-variants.{Ready as ready, Refused}
 use Rattle.interning.specs.Live.{Live, ready-live}
 use Rattle.sets.specs.Config.{Config}
@@ -33,7 +34,7 @@ use Rattle.sets.specs.Held.{HeldSet}
 use Rattle.sets.specs.Sound.{sound-held}
 use Rattle.store.specs.Checks.{Check, given, unless}
 use Rattle.store.specs.Checks.Laws.{unless-first, unless-next, clear-goes, due-given}
-use Rattle.sets.specs.Calls.{SetReply, refused, added, SetLeft, setLeft, refusal, lentLengths, lentChecks, addChecks, addCall}
+use Rattle.sets.specs.Calls.{SetReply, refused, added, SetLeft, setLeft, setLeftAfter, refusal, lentLengths, lentChecks, addWork, addChecks, addCall}
 use Rattle.setcheck.specs.Keys.{hasKey, keyBucket, SoughtKey}
 use Rattle.setcheck.specs.Opened.{OpenedSet}
 use Rattle.configs.specs.Adding.{insertCall, joinTo, joinCall, addRest, Addable, Joinable}
@@ -46,17 +47,26 @@ module _ (s : Store) (S : Set) (x : Config) where
   unfolding addTo
   add-joined c e = rw (e, addTo)
 
+  pub work-joined : (c : ℕ) → held x (S .configs) ≡ at c → addWork s S x ≡ counting (not (S .full)) s c (x .context)
+  unfolding addWork
+  work-joined c e = rw (e, addWork)
+
+  pub work-new : held x (S .configs) ≡ nowhere → addWork s S x ≡ done 0 (standing s [] 0)
+  unfolding addWork
+  work-new e = rw (e, addWork)
+
   pub add-new : held x (S .configs) ≡ nowhere → addTo s S x ≡ record { answer = 1; store = s; set = withConfigs S (S .configs ++ (x ∷ [])) }
   unfolding addTo
   add-new e = rw (e, addTo)
 
--- the two last checks, and what follows them, over what is added
-unfoldable pub addWith : List ℕ → List ℕ → Bool → Bool → Addition → SetLeft
-addWith w v known full A =
-    unless (given 8 (not known && full) ∷ given 6 (not (fits (A .store))) ∷ []) (refusal w v zeros)
-    (setLeft (added (A .answer)) (wordsOf (A .store)) (setWords (A .set)) zeros)
+-- the last checks, and what follows them, over what is added
+unfoldable pub addWith : List ℕ → List ℕ → Bool → Bool → Outcome ℕ → Addition → SetLeft
+addWith w v known full o A =
+    unless (given 8 (not known && full) ∷ tooMuchWork o ∷ noRoom (A .store) ∷ []) (refusal w v zeros)
+    (setLeftAfter (countOf o) (added (A .answer)) (wordsOf (A .store)) (setWords (A .set)) zeros)
 
-rest-with : (w v : List ℕ) (x : Config) → addRest w v x ≡ addWith w v (any (sameKey x) (setOf v .configs)) (leb mostConfigs (length (setOf v .configs))) (addTo (storeOf w) (setOf v) x)
+rest-with : (w v : List ℕ) (x : Config) → addRest w v x ≡ addWith w v (any (sameKey x) (setOf v .configs)) (leb mostConfigs (length (setOf v .configs)))
+    (addWork (storeOf w) (setOf v) x) (addTo (storeOf w) (setOf v) x)
 unfolding addRest addWith
 rest-with w v x = refl
 
@@ -86,18 +96,22 @@ module _ {w v z : List ℕ} {x : Config} (a : Addable w v z x) where
     unfolding addWith joinTo
     add-at i f =
         let j = add-joinable i f in
+        let here = held-here (a .ready .sound) x i (j .here) (j .same) in
         let known : any (sameKey x) (setOf v .configs) ≡ true = at-any (sameKey x) v (configCount v) i (j .here) (j .same) in
         sym
         (rest-with w v x
-        ∙ rw (known, add-joined (storeOf w) (setOf v) x (configAt v i .context) (held-here (a .ready .sound) x i (j .here) (j .same)))
+        ∙ rw (known, add-joined (storeOf w) (setOf v) x (configAt v i .context) here, work-joined (storeOf w) (setOf v) x (configAt v i .context) here)
         (unless-next (refusal w v zeros) _ (given 8 _) _ refl))
 
     -- the key is new
     inserted : Addition
     inserted = record { answer = 1; store = storeOf w; set = withConfigs (setOf v) (setOf v .configs ++ (x ∷ [])) }
 
-    insert-with : setLeft (insertCall v x .0) w (insertCall v x .1) zeros ≡ addWith w v false (leb mostConfigs (length (setOf v .configs))) inserted
-    unfolding insertCall addWith inserted refusal unless
+    nothing : Outcome ℕ
+    nothing = done 0 (standing (storeOf w) [] 0)
+
+    insert-with : setLeft (insertCall v x .0) w (insertCall v x .1) zeros ≡ addWith w v false (leb mostConfigs (length (setOf v .configs))) nothing inserted
+    unfolding insertCall addWith inserted nothing refusal unless tooMuch countOf
     insert-with =
         let cs : List Config = setOf v .configs in
         bool? (leb mostConfigs (length cs))
@@ -106,13 +120,14 @@ module _ {w v z : List ℕ} {x : Config} (a : Addable w v z x) where
 
     pub add-last : nowhere ≡ last (hasKey v x) n → (r : SetReply) (u : List ℕ) → (r, u) ≡ insertCall v x → (y : List ℕ) → y ≡ replicate (length z) 0
         → setLeft r w u y ≡ addRest w v x
-    unfolding inserted
+    unfolding inserted nothing
     add-last f r u q y ey =
         let none : any (sameKey x) (setOf v .configs) ≡ false = none-any (sameKey x) v (configCount v) (rw e at (last-none (hasKey v x) n (sym f))) in
+        let new = held-new x (setOf v .configs) none in
         ap (λ (p : SetReply × List ℕ). setLeft (p .0) w (p .1) y) q
         ∙ ap (setLeft (insertCall v x .0) w (insertCall v x .1)) (ey ∙ cleared z (a .ready .store .index .sized))
         ∙ insert-with
-        ∙ sym (rest-with w v x ∙ rw (none, add-new (storeOf w) (setOf v) x (held-new x (setOf v .configs) none)))
+        ∙ sym (rest-with w v x ∙ rw (none, add-new (storeOf w) (setOf v) x new, work-new (storeOf w) (setOf v) x new))
 
 -- ---- the checks that come first
 
@@ -121,27 +136,28 @@ module _ (w v z u : List ℕ) (x : Config) where
   unfolding addCall addChecks lentChecks
   add-refused f o = sym (due-given _ _ (number f) (lentChecks (lentLengths w v z) w v []) _ (o .0) ∙ o .1)
 
-  -- the checks 8 and 6, and what is left where none refuses
-  abbrev lastTwo : List Check
-  lastTwo =
+  -- the checks 8, 12 and 6, and what is left where none refuses
+  abbrev lastThree : List Check
+  lastThree =
       given 8 (not (any (sameKey x) (setOf v .configs)) && leb mostConfigs (length (setOf v .configs)))
-      ∷ given 6 (not (fits (addTo (storeOf w) (setOf v) x .store))) ∷ []
+      ∷ tooMuchWork (addWork (storeOf w) (setOf v) x) ∷ noRoom (addTo (storeOf w) (setOf v) x .store) ∷ []
 
   abbrev go : SetLeft
   go =
       let A = addTo (storeOf w) (setOf v) x in
-      setLeft (added (A .answer)) (wordsOf (A .store)) (setWords (A .set)) zeros
+      setLeftAfter (countOf (addWork (storeOf w) (setOf v) x)) (added (A .answer)) (wordsOf (A .store)) (setWords (A .set)) zeros
 
   -- they leave the scratch 0, whatever it was
-  rest-same : addRest w v x ≡ unless lastTwo (refusal w v z) go
+  rest-same : addRest w v x ≡ unless lastThree (refusal w v z) go
   unfolding addRest unless refusal
   rest-same =
       bool? (not (any (sameKey x) (setOf v .configs)) && leb mostConfigs (length (setOf v .configs)))
       (λ e. rw e)
-      (λ e. rw e (bool? (fits (addTo (storeOf w) (setOf v) x .store)) (λ f. rw f) (λ f. rw f)))
+      (λ e. rw e (bool? (tooMuch (addWork (storeOf w) (setOf v) x)) (λ t. rw t)
+      (λ t. rw t (bool? (fits (addTo (storeOf w) (setOf v) x .store)) (λ f. rw f) (λ f. rw f)))))
 
   module _ (o : OpenedSet w v z ready u) where
-    after-lent : addCall w v z x ≡ unless (given 7 (flag 8 v) ∷ given 4 (not (ltb (x .context) (contexts w))) ∷ lastTwo) (refusal w v z) go
+    after-lent : addCall w v z x ≡ unless (given 7 (flag 8 v) ∷ given 4 (not (ltb (x .context) (contexts w))) ∷ lastThree) (refusal w v z) go
     unfolding addCall addChecks lentChecks
     after-lent = clear-goes (refusal w v z) go (lentChecks (lentLengths w v z) w v []) _ (o .1)
 
@@ -153,17 +169,17 @@ module _ (w v z u : List ℕ) (x : Config) where
     add-closed e y ey = ap (setLeft (refused 7) w v) (zeroed y ey) ∙ sym (after-lent ∙ unless-first (refusal w v z) go (given 7 (flag 8 v)) _ e)
 
     module _ (writable : flag 8 v ≡ false) where
-      after-seven : addCall w v z x ≡ unless (given 4 (not (ltb (x .context) (contexts w))) ∷ lastTwo) (refusal w v z) go
+      after-seven : addCall w v z x ≡ unless (given 4 (not (ltb (x .context) (contexts w))) ∷ lastThree) (refusal w v z) go
       after-seven = after-lent ∙ unless-next (refusal w v z) go (given 7 (flag 8 v)) _ writable
 
       pub add-unknown : contexts w ≤ x .context → (y : List ℕ) → y ≡ replicate (length u) 0 → setLeft (refused 4) w v y ≡ addCall w v z x
       unfolding refusal
       add-unknown h y ey =
           ap (setLeft (refused 4) w v) (zeroed y ey)
-          ∙ sym (after-seven ∙ unless-first (refusal w v z) go (given 4 _) lastTwo (ap not (le-ltb (x .context) (contexts w) h)))
+          ∙ sym (after-seven ∙ unless-first (refusal w v z) go (given 4 _) lastThree (ap not (le-ltb (x .context) (contexts w) h)))
 
       pub add-addable : x .context < contexts w → Addable w v u x
       add-addable h = record { ready = o .0; known = h }
 
       pub add-done : x .context < contexts w → addRest w v x ≡ addCall w v z x
-      add-done h = rest-same ∙ sym (after-seven ∙ unless-next (refusal w v z) go (given 4 _) lastTwo (ap not (lt-ltb (x .context) (contexts w) h)))
+      add-done h = rest-same ∙ sym (after-seven ∙ unless-next (refusal w v z) go (given 4 _) lastThree (ap not (lt-ltb (x .context) (contexts w) h)))

@@ -11,7 +11,7 @@ use Rattle.store.specs.Calls.{refused as notMade}
 use Rattle.store.specs.Told.{number-tells}
 use Rattle.sets.specs.Config.{Config}
 use Rattle.sets.specs.Calls.{SetReply, refused, SetLeft, setLeft, freshSetCall, addCall, closeCall}
-use Rattle.configs.specs.Replies.{settled, addedReply}
+use Rattle.configs.specs.Replies.{settled, addedReply, mergesOf, addedLeft}
 use Rattle.configs.specs.declared.settle.Settled.{Settled}
 use Rattle.configs.specs.declared.settle.Settled.the-variants.{Done, Refused as NotSettled}
 use Rattle.configs.specs.declared.adding.Added.{Added}
@@ -28,16 +28,16 @@ settled-tells Done (NotSettled g) e = cc
 settled-tells (NotSettled f) Done e = cc
 settled-tells (NotSettled f) (NotSettled g) e = ap NotSettled (refusal-tells f g e)
 
-added-tells : (a b : Added) → addedReply a ≡ addedReply b → a ≡ b
-added-tells Inserted Inserted e = refl
-added-tells Inserted Merged e = cc
-added-tells Inserted (Refused g) e = cc
-added-tells Merged Inserted e = cc
-added-tells Merged Merged e = refl
-added-tells Merged (Refused g) e = cc
-added-tells (Refused f) Inserted e = cc
-added-tells (Refused f) Merged e = cc
-added-tells (Refused f) (Refused g) e = ap Refused (refusal-tells f g e)
+added-tells : (a b : Added) → addedReply a ≡ addedReply b → mergesOf a ≡ mergesOf b → a ≡ b
+added-tells Inserted Inserted e m = refl
+added-tells Inserted (Merged k) e m = cc
+added-tells Inserted (Refused g) e m = cc
+added-tells (Merged n) Inserted e m = cc
+added-tells (Merged n) (Merged k) e m = ap Merged m
+added-tells (Merged n) (Refused g) e m = cc
+added-tells (Refused f) Inserted e m = cc
+added-tells (Refused f) (Merged k) e m = cc
+added-tells (Refused f) (Refused g) e m = ap Refused (refusal-tells f g e)
 
 -- ---- the calls
 
@@ -46,21 +46,20 @@ fresh-determined v f a b t u p q =
     let e : _≡_ {A = SetReply × List ℕ} (settled a, t) (settled b, u) = p ∙ sym q in
     (settled-tells a b (ap (λ (x : SetReply × List ℕ). x .0) e), ap (λ (x : SetReply × List ℕ). x .1) e)
 
-module _ (x : SetLeft) {A : Type 0} (reply : A → SetReply) (tells : (a b : A) → reply a ≡ reply b → a ≡ b) where
-  call-determined : (a b : A) (w w′ v v′ z z′ : List ℕ) → setLeft (reply a) w v z ≡ x → setLeft (reply b) w′ v′ z′ ≡ x
-      → (a ≡ b) × (w ≡ w′) × (v ≡ v′) × (z ≡ z′)
-  call-determined a b w w′ v v′ z z′ p q =
-      let e = determined (setLeft (reply a) w v z) (setLeft (reply b) w′ v′ z′) x p q in (
-        tells a b (ap (λ (o : SetLeft). o .reply) e),
-        ap (λ (o : SetLeft). o .store) e,
-        ap (λ (o : SetLeft). o .set) e,
-        ap (λ (o : SetLeft). o .scratch) e,
-      )
+-- what two equal outcomes have alike
+alike : (x y : SetLeft) → x ≡ y → (x .store ≡ y .store) × (x .set ≡ y .set) × (x .scratch ≡ y .scratch)
+alike x y e = (ap (λ (o : SetLeft). o .store) e, ap (λ (o : SetLeft). o .set) e, ap (λ (o : SetLeft). o .scratch) e)
 
 pub add-determined : (w v z : List ℕ) (x : Config) (a b : Added) (s s′ t t′ u u′ : List ℕ)
-    → setLeft (addedReply a) s t u ≡ addCall w v z x → setLeft (addedReply b) s′ t′ u′ ≡ addCall w v z x → (a ≡ b) × (s ≡ s′) × (t ≡ t′) × (u ≡ u′)
-add-determined w v z x = call-determined (addCall w v z x) addedReply added-tells
+    → addedLeft a s t u ≡ addCall w v z x → addedLeft b s′ t′ u′ ≡ addCall w v z x → (a ≡ b) × (s ≡ s′) × (t ≡ t′) × (u ≡ u′)
+add-determined w v z x a b s s′ t t′ u u′ p q =
+    let e = determined (addedLeft a s t u) (addedLeft b s′ t′ u′) (addCall w v z x) p q in
+    let o = alike (addedLeft a s t u) (addedLeft b s′ t′ u′) e in
+    (added-tells a b (ap (λ (o : SetLeft). o .reply) e) (ap (λ (o : SetLeft). o .merges) e), o .0, o .1, o .2)
 
 pub close-determined : (w v z : List ℕ) (a b : Settled) (s s′ t t′ u u′ : List ℕ)
     → setLeft (settled a) s t u ≡ closeCall w v z → setLeft (settled b) s′ t′ u′ ≡ closeCall w v z → (a ≡ b) × (s ≡ s′) × (t ≡ t′) × (u ≡ u′)
-close-determined w v z = call-determined (closeCall w v z) settled settled-tells
+close-determined w v z a b s s′ t t′ u u′ p q =
+    let e = determined (setLeft (settled a) s t u) (setLeft (settled b) s′ t′ u′) (closeCall w v z) p q in
+    let o = alike (setLeft (settled a) s t u) (setLeft (settled b) s′ t′ u′) e in
+    (settled-tells a b (ap (λ (o : SetLeft). o .reply) e), o .0, o .1, o .2)

@@ -1,18 +1,18 @@
 -- A config joined to the one that has its key, once their contexts are merged. Nothing here has to be believed.
 use mathlib.Core.Path.{_≡_, sym, ap, _∙_}
 use mathlib.Core.Bool.{true, false, not}
-use mathlib.Core.List.{List, []}
+use mathlib.Core.List.{List, [], _∷_}
 use Prim.Native.Nat.{ℕ, _<_}
 use native.Mathlib.Omega.{arith}
 use lib.ListN.{length, set, length-set}
 use lib.Seq.{getD-set-same, getD-set-other}
-use Rattle.words.specs.Refusals.{number}
 use Rattle.arena.specs.Store.{Store}
 use Rattle.layout.specs.Layout.{count as contexts}
 use Rattle.layout.specs.Encode.{wordsOf}
 use Rattle.encoding.specs.Decide.{fits}
-use Rattle.store.specs.Calls.{context, Left, leaves, zeros, refused as notMade}
-use Rattle.store.specs.Nested.{grown}
+use Rattle.work.specs.Counted.{Outcome, tooMuch, countOf}
+use Rattle.store.specs.Calls.{context, Left, leaves, leavesAfter, zeros, tooMuchWork, noRoom, refused as notMade}
+use Rattle.contexts.specs.MergeCall.Laws.{worked}
 use Rattle.interning.specs.Live.{Live, ready-live}
 use Rattle.sets.specs.Config.{Config}
 use Rattle.sets.specs.Lists.{any}
@@ -25,58 +25,64 @@ use Rattle.sets.specs.Listed.{at-any}
 use Rattle.sets.specs.Held.{HeldSet, held-words}
 use Rattle.sets.specs.Sound.{sound-held}
 use Rattle.sets.specs.Joined.{joined-length, semantic-joined, dips-joined, semantic-known, joined-configs}
-use Rattle.store.specs.Checks.{given, unless}
+use Rattle.store.specs.Checks.{unless}
 use Rattle.store.specs.Checks.Laws.{unless-first, unless-next}
-use Rattle.sets.specs.Calls.{refused, added, setLeft, refusal}
+use Rattle.sets.specs.Calls.{refused, added, setLeft, setLeftAfter, refusal}
 use Rattle.setcheck.specs.Flags.{joinedFlags, joined-four}
 use Rattle.configs.specs.Writes.{putConfig, put-length, put-after, put-flags, put-count, put-here, put-other, head-config, head-other}
 use Rattle.configs.specs.Adding.{Joinable, joinTo}
 
 -- ---- what the merge has left
 
-module _ (w : List ℕ) (P : ℕ × Store) where
-  pub grown-yes : fits (P .1) ≡ true → grown w P ≡ leaves (context (P .0)) (wordsOf (P .1)) zeros
-  unfolding grown
-  grown-yes e = rw (e, grown)
+module _ (w : List ℕ) (o : Outcome ℕ) (P : ℕ × Store) where
+  over-is : tooMuch o ≡ true → worked w o P ≡ leaves (notMade 12) w zeros
+  unfolding worked
+  over-is e = rw (e, worked)
 
-  grown-no : fits (P .1) ≡ false → grown w P ≡ leaves (notMade 6) w zeros
-  unfolding grown
-  grown-no e = rw (e, grown)
+  pub made-is : tooMuch o ≡ false → fits (P .1) ≡ true → worked w o P ≡ leavesAfter (countOf o) (context (P .0)) (wordsOf (P .1)) zeros
+  unfolding worked
+  made-is e f = rw (e, f, worked)
+
+  full-is : tooMuch o ≡ false → fits (P .1) ≡ false → worked w o P ≡ leaves (notMade 6) w zeros
+  unfolding worked
+  full-is e f = rw (e, f, worked)
+
+  -- too much work, made, or no room
+  worked? {ℓ} : {X : Type ℓ} → (tooMuch o ≡ true → X) → (tooMuch o ≡ false → fits (P .1) ≡ true → X) → (tooMuch o ≡ false → fits (P .1) ≡ false → X) → X
+  worked? over made full = bool? (tooMuch o) over (λ e. bool? (fits (P .1)) (made e) (full e))
 
   module _ (w′ z′ : List ℕ) where
-    pub record MergeMade (c : ℕ) : Type 0 where
+    pub record MergeMade (c n : ℕ) : Type 0 where
+      pub light : tooMuch o ≡ false
       pub room : fits (P .1) ≡ true
       pub number : c ≡ P .0
+      pub merges : n ≡ countOf o
       pub store : w′ ≡ wordsOf (P .1)
       pub scratch : z′ ≡ zeros
 
-    pub merge-made : (c : ℕ) → leaves (context c) w′ z′ ≡ grown w P → MergeMade c
-    merge-made c e =
-        bool? (fits (P .1))
-        (λ f.
-        let q : leaves (context c) w′ z′ ≡ leaves (context (P .0)) (wordsOf (P .1)) zeros = e ∙ grown-yes f in
-        let n : context c ≡ context (P .0) = ap (λ (l : Left). l .reply) q in
-        record { room = f; number = cc; store = ap (λ (l : Left). l .store) q; scratch = ap (λ (l : Left). l .scratch) q })
-        (λ f.
-        let n : context c ≡ notMade 6 = ap (λ (l : Left). l .reply) (e ∙ grown-no f) in
+    -- a number is no refusal
+    not-made : (c n k : ℕ) → leavesAfter n (context c) w′ z′ ≡ leaves (notMade k) w zeros → ⊥
+    not-made c n k e =
+        let r : context c ≡ notMade k = ap (λ (l : Left). l .reply) e in
         let z : _≡_ {A = ℕ} 0 1 = cc in
-        absurd (omega arith))
+        omega arith
 
-    pub record MergeUnmade : Type 0 where
-      pub full : fits (P .1) ≡ false
-      pub store : w′ ≡ w
-      pub scratch : z′ ≡ zeros
-
-    pub merge-unmade : (n : ℕ) → leaves (notMade n) w′ z′ ≡ grown w P → MergeUnmade
-    merge-unmade n e =
-        bool? (fits (P .1))
-        (λ f.
-        let q : notMade n ≡ context (P .0) = ap (λ (l : Left). l .reply) (e ∙ grown-yes f) in
-        let z : _≡_ {A = ℕ} 0 1 = cc in
-        absurd (omega arith))
-        (λ f.
-        let q : leaves (notMade n) w′ z′ ≡ leaves (notMade 6) w zeros = e ∙ grown-no f in
-        record { full = f; store = ap (λ (l : Left). l .store) q; scratch = ap (λ (l : Left). l .scratch) q })
+    pub merge-made : (c n : ℕ) → leavesAfter n (context c) w′ z′ ≡ worked w o P → MergeMade c n
+    merge-made c n e =
+        worked?
+        (λ t. absurd (not-made c n 12 (e ∙ over-is t)))
+        (λ t f.
+        let q : leavesAfter n (context c) w′ z′ ≡ leavesAfter (countOf o) (context (P .0)) (wordsOf (P .1)) zeros = e ∙ made-is t f in
+        let r : context c ≡ context (P .0) = ap (λ (l : Left). l .reply) q in
+        record {
+          light = t;
+          room = f;
+          number = cc;
+          merges = ap (λ (l : Left). l .merges) q;
+          store = ap (λ (l : Left). l .store) q;
+          scratch = ap (λ (l : Left). l .scratch) q;
+        })
+        (λ t f. absurd (not-made c n 6 (e ∙ full-is t f)))
 
 -- ---- the flags
 
@@ -149,19 +155,42 @@ module _ {w v z : List ℕ} {i : ℕ} {x : Config} (j : Joinable w v z i x) wher
 
   -- ---- the call
 
-  module _ (P : ℕ × Store) (w′ z′ : List ℕ) where
-    pub join-refused : (n : ℕ) → leaves (notMade n) w′ z′ ≡ grown w P → setLeft (refused 6) w′ v z′ ≡ joinTo w v x P
+  module _ (o : Outcome ℕ) (P : ℕ × Store) (w′ z′ : List ℕ) where
+    over-joined : tooMuch o ≡ true → joinTo w v x o P ≡ setLeft (refused 12) w v zeros
     unfolding joinTo refusal
-    join-refused n e =
-        let m = merge-unmade w P w′ z′ n e in
-        rw (m .store, m .scratch) (sym (unless-first (refusal w v zeros) _ (given 6 (not (fits (P .1)))) [] (ap not (m .full))))
+    over-joined t = unless-first (refusal w v zeros) _ (tooMuchWork o) _ t
 
-    pub join-done : (c : ℕ) → leaves (context c) w′ z′ ≡ grown w P → (y : Config) → y ≡ joined x c (configAt v i) → (u : List ℕ) → u ≡ putConfig v i y
-        → (n : ℕ) → n ≡ flagWord u → (b : ℕ) → b ≡ joinedFlags n x → setLeft (added 0) w′ (set u 1 b) z′ ≡ joinTo w v x P
+    full-joined : tooMuch o ≡ false → fits (P .1) ≡ false → joinTo w v x o P ≡ setLeft (refused 6) w v zeros
+    unfolding joinTo refusal
+    full-joined t f = unless-next (refusal w v zeros) _ (tooMuchWork o) _ t ∙ unless-first (refusal w v zeros) _ (noRoom (P .1)) [] (ap not f)
+
+    -- the same refusal of the store, and of the set
+    as-left : (n k : ℕ) → leaves (notMade n) w′ z′ ≡ leaves (notMade k) w zeros → setLeft (refused n) w′ v z′ ≡ setLeft (refused k) w v zeros
+    as-left n k e =
+        let r : notMade n ≡ notMade k = ap (λ (l : Left). l .reply) e in
+        let i : n ≡ k = cc in
+        rw (i, ap (λ (l : Left). l .store) e, ap (λ (l : Left). l .scratch) e)
+
+    no-number : (n : ℕ) → leaves (notMade n) w′ z′ ≡ leavesAfter (countOf o) (context (P .0)) (wordsOf (P .1)) zeros → ⊥
+    no-number n e =
+        let r : notMade n ≡ context (P .0) = ap (λ (l : Left). l .reply) e in
+        let z : _≡_ {A = ℕ} 0 1 = cc in
+        omega arith
+
+    pub join-refused : (n : ℕ) → leaves (notMade n) w′ z′ ≡ worked w o P → setLeft (refused n) w′ v z′ ≡ joinTo w v x o P
+    join-refused n e =
+        worked? w o P
+        (λ t. as-left n 12 (e ∙ over-is w o P t) ∙ sym (over-joined t))
+        (λ t f. absurd (no-number n (e ∙ made-is w o P t f)))
+        (λ t f. as-left n 6 (e ∙ full-is w o P t f) ∙ sym (full-joined t f))
+
+    pub join-done : (c k : ℕ) → leavesAfter k (context c) w′ z′ ≡ worked w o P → (y : Config) → y ≡ joined x c (configAt v i) → (u : List ℕ) → u ≡ putConfig v i y
+        → (n : ℕ) → n ≡ flagWord u → (b : ℕ) → b ≡ joinedFlags n x → setLeftAfter k (added 0) w′ (set u 1 b) z′ ≡ joinTo w v x o P
     unfolding joinTo unless
-    join-done c e y ey u eu n en b eb =
-        let m = merge-made w P w′ z′ c e in
+    join-done c k e y ey u eu n en b eb =
+        let m = merge-made w o P w′ z′ c k e in
         let f : b ≡ joinedFlags (flagWord v) x = eb ∙ ap (λ (k : ℕ). joinedFlags k x) (en ∙ ap flagWord eu ∙ put-flags v i y) in
-        rw (m .store, m .scratch, eu, join-words (P .0) y (rw (m .number) at ey) b f)
-        (sym (unless-next (refusal w v zeros) (setLeft (added 0) (wordsOf (P .1)) (setWords (withConfigs S (joinedAll x (P .0) (S .configs)))) zeros)
-        (given 6 (not (fits (P .1)))) [] (ap not (m .room))))
+        let go = setLeftAfter (countOf o) (added 0) (wordsOf (P .1)) (setWords (withConfigs S (joinedAll x (P .0) (S .configs)))) zeros in
+        rw (m .store, m .scratch, m .merges, eu, join-words (P .0) y (rw (m .number) at ey) b f)
+        (sym (unless-next (refusal w v zeros) go (tooMuchWork o) (noRoom (P .1) ∷ []) (m .light)
+        ∙ unless-next (refusal w v zeros) go (noRoom (P .1)) [] (ap not (m .room))))

@@ -1,6 +1,8 @@
--- To believe: what the answers of this crate stand for; inserted is 1 and merged 0.
+-- To believe: what the answers of this crate stand for; inserted is 1 and merged 0, after so many merges.
+use mathlib.Core.List.{List}
+use Prim.Native.Nat.{ℕ}
 use Rattle.words.specs.Refusals.{number}
-use Rattle.sets.specs.Calls.{SetReply, refused, done, added}
+use Rattle.sets.specs.Calls.{SetReply, refused, done, added, SetLeft, setLeftAfter}
 use Rattle.configs.specs.declared.settle.Settled.{Settled}
 use Rattle.configs.specs.declared.settle.Settled.the-variants.{Done, Refused as NotSettled}
 use Rattle.configs.specs.declared.adding.Added.{Added}
@@ -12,5 +14,13 @@ settled (NotSettled f) = refused (number f)
 
 abbrev pub addedReply : Added → SetReply
 addedReply Inserted = added 1
-addedReply Merged = added 0
+addedReply (Merged n) = added 0
 addedReply (Refused f) = refused (number f)
+
+abbrev pub mergesOf : Added → ℕ
+mergesOf Inserted = 0
+mergesOf (Merged n) = n
+mergesOf (Refused f) = 0
+
+abbrev pub addedLeft : Added → List ℕ → List ℕ → List ℕ → SetLeft
+addedLeft r w v z = setLeftAfter (mergesOf r) (addedReply r) w v z

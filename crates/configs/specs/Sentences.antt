@@ -23,10 +23,11 @@ use Rattle.layout.specs.Encode.{wordsOf}
 use Rattle.encoding.specs.Decoded.{decoded}
 use Rattle.encoding.specs.Decide.{sound, fits}
 use Rattle.encoding.specs.Decide.Laws.{true-sound}
-use Rattle.store.specs.Calls.{context, Left, leaves, zeros}
+use Rattle.work.specs.Counted.{counting, tooMuch, countOf}
+use Rattle.store.specs.Calls.{context, Left, leavesAfter, zeros}
 use Rattle.store.specs.Admit.{sound-goes, known-goes}
 use Rattle.contexts.specs.MergeCall.{mergeCall}
-use Rattle.contexts.specs.MergeCall.Laws.{merge-nested}
+use Rattle.contexts.specs.MergeCall.Laws.{merge-nested, mergedKnown}
 use Rattle.contexts.specs.Promises.{store-after, merge-sound-after, merge-stands}
 use Rattle.sets.specs.Config.{Config}
 use Rattle.sets.specs.Lists.{any, all}
@@ -42,27 +43,28 @@ use Rattle.sets.specs.Joined.{joinedIf, joined-here, joined-other, joined-lengt
 use Rattle.sets.specs.Kept.{good-inserted, good-joined}
 use Rattle.store.specs.Checks.Laws.{Clear, passed-clear, clear-passed}
 use Rattle.sets.specs.Refusals.{SoundLent, clear-lent, lent-clear, refusal-reply, fresh-refused-leaves}
-use Rattle.sets.specs.Calls.{SetReply, refused, done, added, SetLeft, setLeft, refusal, lentLengths, lentChecks, addChecks, freshSetCall, addCall, closeCall}
-use Rattle.configs.specs.Joins.{grown-yes}
+use Rattle.sets.specs.Calls.{SetReply, refused, done, added, SetLeft, setLeft, setLeftAfter, Adds, refusal, lentLengths, lentChecks, addWork, addChecks, freshSetCall, addCall}
+use Rattle.sets.specs.Calls.{closeCall}
+use Rattle.configs.specs.Joins.{made-is}
 use Rattle.configs.specs.Settles.{fresh-flags, fresh-goes}
-use Rattle.configs.specs.Adds.{add-joined, add-new}
+use Rattle.configs.specs.Adds.{add-joined, add-new, work-joined}
 
 -- the contexts of config i and of x, merged in the set's kind
 unfoldable mergedTo : List ℕ → List ℕ → Config → ℕ → ℕ × Store
 mergedTo w v x i = mergeS (not (flag 1 v)) (storeOf w) (configAt v i .context) (x .context)
 
-module _ (w v z : List ℕ) (x : Config) (a : ℕ) (w′ v′ : List ℕ) (ok : addCall w v z x ≡ setLeft (added a) w′ v′ zeros) where
+module _ (w v z : List ℕ) (x : Config) (a : ℕ) (w′ v′ : List ℕ) (ok : Adds (addCall w v z x) a w′ v′) where
   -- ---- the checks were passed
 
-  not-refused : (n : ℕ) → refusal w v z n ≡ setLeft (added a) w′ v′ zeros → ⊥
+  not-refused : (n : ℕ) → Adds (refusal w v z n) a w′ v′ → ⊥
   not-refused n e =
-      let q : refused n ≡ added a = sym (refusal-reply w v z n) ∙ ap (λ (l : SetLeft). l .reply) e in
+      let q : refused n ≡ added a = sym (refusal-reply w v z n) ∙ e .0 in
       let k : _≡_ {A = ℕ} 0 1 = cc in
       omega arith
 
   passed : Clear (addChecks w v z x)
   unfolding addCall
-  passed = passed-clear (refusal w v z) _ (λ (l : SetLeft). l ≡ setLeft (added a) w′ v′ zeros) not-refused (addChecks w v z x) ok
+  passed = passed-clear (refusal w v z) _ (λ (l : SetLeft). Adds l a w′ v′) not-refused (addChecks w v z x) ok
 
   pub lent : SoundLent w v z
   unfolding addChecks lentChecks
@@ -79,25 +81,29 @@ module _ (w v z : List ℕ) (x : Config) (a : ℕ) (w′ v′ : List ℕ) (ok : 
   after : Addition
   after = addTo (storeOf w) (setOf v) x
 
-  outcome : setLeft (added (after .answer)) (wordsOf (after .store)) (setWords (after .set)) zeros ≡ setLeft (added a) w′ v′ zeros
+  outcome : addCall w v z x ≡ setLeftAfter (countOf (addWork (storeOf w) (setOf v) x)) (added (after .answer)) (wordsOf (after .store)) (setWords (after .set)) zeros
   unfolding addCall after
-  outcome = sym (clear-passed (refusal w v z) _ (addChecks w v z x) passed) ∙ ok
+  outcome = clear-passed (refusal w v z) _ (addChecks w v z x) passed
 
   is-answer : a ≡ after .answer
-  is-answer = let q : added (after .answer) ≡ added a = ap (λ (l : SetLeft). l .reply) outcome in cc
+  is-answer = let q : added a ≡ added (after .answer) = sym (ok .0) ∙ ap (λ (l : SetLeft). l .reply) outcome in cc
 
   is-store : w′ ≡ wordsOf (after .store)
-  is-store = ap (λ (l : SetLeft). l .store) (sym outcome)
+  is-store = sym (ok .1) ∙ ap (λ (l : SetLeft). l .store) outcome
 
   is-set : v′ ≡ setWords (after .set)
-  is-set = ap (λ (l : SetLeft). l .set) (sym outcome)
+  is-set = sym (ok .2) ∙ ap (λ (l : SetLeft). l .set) outcome
 
   good : goodSet (contexts w) (setOf v) ≡ true
   good = sound-good (contexts w) v (lent .set-sound)
 
+  little : tooMuch (addWork (storeOf w) (setOf v) x) ≡ false
+  unfolding addChecks lentChecks
+  little = passed .1 .1 .1 .1 .1 .1 .0
+
   there-is-room : not (fits (after .store)) ≡ false
   unfolding addChecks lentChecks after
-  there-is-room = passed .1 .1 .1 .1 .1 .1 .0
+  there-is-room = passed .1 .1 .1 .1 .1 .1 .1 .0
 
   -- ---- "Otherwise the config goes last, answer "inserted"."
 
@@ -196,26 +202,29 @@ module _ (w v z : List ℕ) (x : Config) (a : ℕ) (w′ v′ : List ℕ) (ok : 
     merged-others j l d = at-place j l ∙ joined-other x (mergedTo w v x i .0) (configAt v j) (only-key (lent .set-sound) x i here same-key j l d)
 
     -- the store after is the merge's, and so is the config's context
-    pub merged-call : mergeCall w z (configAt v i .context) (x .context) (not (flag 1 v)) ≡ leaves (context (configAt v′ i .context)) w′ zeros
-    unfolding mergedTo joined
+    pub merged-call : mergeCall w z (configAt v i .context) (x .context) (not (flag 1 v))
+        ≡ leavesAfter (addCall w v z x .merges) (context (configAt v′ i .context)) w′ zeros
+    unfolding mergedTo joined mergedKnown
     merged-call =
         let l = lent in
+        let work = work-joined (storeOf w) (setOf v) x (configAt v i .context) (held-here (lent .set-sound) x i here same-key) in
         let c : configAt v′ i .context ≡ mergedTo w v x i .0 = ap (λ (y : Config). y .context) config-now in
         let s : w′ ≡ wordsOf (mergedTo w v x i .1) = is-store ∙ ap (λ (A : Addition). wordsOf (A .store)) joining in
         merge-nested w z (configAt v i .context) (x .context) (not (flag 1 v))
         ∙ sound-goes w z _ (l .store-length) (l .scratch-length) (l .store-sound)
         ∙ known-goes w (configAt v i .context) _ (l .set-sound .known i here)
         ∙ known-goes w (x .context) _ context-known
-        ∙ grown-yes w (mergedTo w v x i) (not-false _ (rw joining at there-is-room))
-        ∙ rw (c, s)
+        ∙ made-is w (counting (not (flag 1 v)) (storeOf w) (configAt v i .context) (x .context)) (mergedTo w v x i)
+        (rw work at little) (not-false _ (rw joining at there-is-room))
+        ∙ rw (c, s, ap (λ (l : SetLeft). l .merges) outcome, work)
 
-    accepted : (mergeCall w z (configAt v i .context) (x .context) (not (flag 1 v)) .reply ≡ context (configAt v′ i .context))
+    pub merged-accepted : (mergeCall w z (configAt v i .context) (x .context) (not (flag 1 v)) .reply ≡ context (configAt v′ i .context))
         × (mergeCall w z (configAt v i .context) (x .context) (not (flag 1 v)) .store ≡ w′)
-    accepted = (ap (λ (l : Left). l .reply) merged-call, ap (λ (l : Left). l .store) merged-call)
+    merged-accepted = (ap (λ (l : Left). l .reply) merged-call, ap (λ (l : Left). l .store) merged-call)
 
     -- it stands for the union of both in a full-context set, and for document 01's wildcard merge in another
     pub merged-stands : MergeRule (not (flag 1 v)) (mem (tree (storeOf w) (configAt v i .context))) (mem (tree (storeOf w) (x .context))) (mem (tree (storeOf w′) (configAt v′ i .context)))
-    merged-stands = merge-stands w z (configAt v i .context) (x .context) (not (flag 1 v)) (configAt v′ i .context) w′ accepted
+    merged-stands = merge-stands w z (configAt v i .context) (x .context) (not (flag 1 v)) (configAt v′ i .context) w′ merged-accepted
 
     merged-set : setOf v′ ≡ withConfigs (setOf v) (joinedAll x (mergedTo w v x i .0) (setOf v .configs))
     merged-set = held-set v′ _ merged-held
@@ -224,7 +233,7 @@ module _ (w v z : List ℕ) (x : Config) (a : ℕ) (w′ v′ : List ℕ) (ok : 
     unfolding mergedTo
     grows =
         let g = decoded w (lent .store-length) (lent .store-sound) .0 in
-        let s = store-after w z (configAt v i .context) (x .context) (not (flag 1 v)) (configAt v′ i .context) w′ accepted in
+        let s = store-after w z (configAt v i .context) (x .context) (not (flag 1 v)) (configAt v′ i .context) w′ merged-accepted in
         let n = store-length w (contexts w) in
         let l =
         grew-length (storeOf w) _
@@ -234,7 +243,7 @@ module _ (w v z : List ℕ) (x : Config) (a : ℕ) (w′ v′ : List ℕ) (ok : 
     merged-sound : (sound w′ ≡ true) × SoundSet (contexts w′) v′
     unfolding joined
     merged-sound =
-        let s = merge-sound-after w z (configAt v i .context) (x .context) (not (flag 1 v)) (configAt v′ i .context) w′ accepted in
+        let s = merge-sound-after w z (configAt v i .context) (x .context) (not (flag 1 v)) (configAt v′ i .context) w′ merged-accepted in
         let c : configAt v′ i .context ≡ mergedTo w v x i .0 = ap (λ (y : Config). y .context) config-now in
         (s .1, held-sound (contexts w′) v′ _ merged-held (good-joined x _ (contexts w) (contexts w′) (setOf v) grows (omega (arith, s .2)) good))
 

@@ -15,24 +15,24 @@ use setcheck::inner::read::has_flag;
 use store::inner::admit::Admitted;
 use words::Refusal;
 ghost use mathlib.Core.Path.{_≡_};
-ghost use Rattle.sets.specs.Calls.{addCall, setLeft};
+ghost use Rattle.sets.specs.Calls.{addCall};
 ghost use Rattle.setcheck.specs.Configs.{configOf};
 ghost use Rattle.configs.specs.Adding.{Addable, addRest, insertCall};
 ghost use Rattle.sets.specs.Held.{HeldSet};
 ghost use Rattle.sets.specs.Words.{setOf};
-ghost use Rattle.configs.specs.Replies.{addedReply};
+ghost use Rattle.configs.specs.Replies.{addedLeft, addedReply, mergesOf};
 
-// What adding a config answers.
+// What adding a config answers: inserted, or merged after so many merges.
 pub enum Added {
     Inserted,
-    Merged,
+    Merged(u32),
     Refused(Refusal),
 }
 
 // Puts a config last, where the set has room. Refused 8.
 fn insert(set: &mut [u32], config: AtnConfig) -> Added
     requires { ⌜ HeldSet (now set) (setOf (now set)) ⌝ }
-    ensures { λ r. ⌜ (addedReply r, now (set .exit)) ≡ insertCall (now (set .entry)) (configOf config) ⌝ }
+    ensures { λ r. ⌜ ((addedReply r, now (set .exit)) ≡ insertCall (now (set .entry)) (configOf config)) × (mergesOf r ≡ 0) ⌝ }
 {
     let count = config_count(set) as usize;
     if MOST_CONFIGS <= count {
@@ -45,10 +45,10 @@ fn insert(set: &mut [u32], config: AtnConfig) -> Added
     Added::Inserted
 }
 
-// Adds a config of a known context to an open set. Refused 8 or 6.
+// Adds a config of a known context to an open set. Refused 8, 12 or 6.
 fn add_known(store: &mut [u32], set: &mut [u32], scratch: &mut [u32], config: AtnConfig) -> Added
     requires { ⌜ Addable (now store) (now set) (now scratch) (configOf config) ⌝ }
-    ensures { λ r. ⌜ setLeft (addedReply r) (now (store .exit)) (now (set .exit)) (now (scratch .exit)) ≡ addRest (now (store .entry)) (now (set .entry)) (configOf config) ⌝ }
+    ensures { λ r. ⌜ addedLeft r (now (store .exit)) (now (set .exit)) (now (scratch .exit)) ≡ addRest (now (store .entry)) (now (set .entry)) (configOf config) ⌝ }
 {
     let count = config_count(set) as usize;
     let found = find_key(set, scratch, count, config, key_bucket(config));
@@ -59,9 +59,9 @@ fn add_known(store: &mut [u32], set: &mut [u32], scratch: &mut [u32], config: At
     join(store, set, scratch, place, config)
 }
 
-// Adds a config. Refused 2, 1, 3, 7, 4, 8 or 6, in this order of checking.
+// Adds a config. Refused 2, 1, 3, 7, 4, 8, and then 6 or 12, by which is reached first.
 pub fn add(store: &mut [u32], set: &mut [u32], scratch: &mut [u32], config: AtnConfig) -> Added
-    ensures { λ r. ⌜ setLeft (addedReply r) (now (store .exit)) (now (set .exit)) (now (scratch .exit)) ≡ addCall (now (store .entry)) (now (set .entry)) (now (scratch .entry))
+    ensures { λ r. ⌜ addedLeft r (now (store .exit)) (now (set .exit)) (now (scratch .exit)) ≡ addCall (now (store .entry)) (now (set .entry)) (now (scratch .entry))
         (configOf config) ⌝ }
 {
     let opened = open_set(store, set, scratch);

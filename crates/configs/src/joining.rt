@@ -1,8 +1,8 @@
 // A config joined to the one of the set that has its key.
 use crate::adding::Added;
 use crate::write::put_config;
+use contexts::Merged;
 use contexts::inner::merge_known;
-use interning::Numbered;
 use setcheck::AtnConfig;
 use setcheck::inner::flags::joined_flags;
 use setcheck::inner::places::FULL_CONTEXT;
@@ -10,14 +10,12 @@ use setcheck::inner::read::config_at;
 use setcheck::inner::read::flag_word;
 use setcheck::inner::read::has_flag;
 use words::ContextId;
-use words::Refusal;
 ghost use mathlib.Core.Path.{_≡_};
 ghost use Prim.Native.Nat.{max};
-ghost use Rattle.sets.specs.Calls.{setLeft};
 ghost use Rattle.sets.specs.Sets.{joined};
 ghost use Rattle.setcheck.specs.Configs.{configOf};
 ghost use Rattle.configs.specs.Adding.{Joinable, joinCall};
-ghost use Rattle.configs.specs.Replies.{addedReply};
+ghost use Rattle.configs.specs.Replies.{addedLeft};
 
 // The larger of two reaches.
 fn larger(one: u32, other: u32) -> u32
@@ -52,7 +50,7 @@ fn joined_config(held: AtnConfig, config: AtnConfig, context: ContextId) -> AtnC
     }
 }
 
-// Joins a config to the one at a place that has its key. Refused 6.
+// Joins a config to the one at a place that has its key. Refused 12 or 6.
 pub fn join(
     store: &mut [u32],
     set: &mut [u32],
@@ -61,16 +59,17 @@ pub fn join(
     config: AtnConfig,
 ) -> Added
     requires { ⌜ Joinable (now store) (now set) (now scratch) place (configOf config) ⌝ }
-    ensures { λ r. ⌜ setLeft (addedReply r) (now (store .exit)) (now (set .exit)) (now (scratch .exit)) ≡ joinCall (now (store .entry)) (now (set .entry)) place (configOf config) ⌝ }
+    ensures { λ r. ⌜ addedLeft r (now (store .exit)) (now (set .exit)) (now (scratch .exit)) ≡ joinCall (now (store .entry)) (now (set .entry)) place (configOf config) ⌝ }
 {
     let held = config_at(set, place);
-    let old = held.context;
     let wildcard = !has_flag(set, FULL_CONTEXT);
-    let merged = merge_known(store, scratch, old, config.context, wildcard);
-    let Numbered::Number(context) = merged else {
-        return Added::Refused(Refusal::FullStore);
-    };
-    put_config(set, place, joined_config(held, config, context));
-    set[1] = joined_flags(flag_word(set), config);
-    Added::Merged
+    let merged = merge_known(store, scratch, held.context, config.context, wildcard);
+    match merged {
+        Merged::Number(context, merges) => {
+            put_config(set, place, joined_config(held, config, context));
+            set[1] = joined_flags(flag_word(set), config);
+            Added::Merged(merges)
+        }
+        Merged::Refused(refusal) => Added::Refused(refusal),
+    }
 }

@@ -21,7 +21,7 @@ use Rattle.arena.specs.Stands.{stands}
 use Rattle.arena.specs.Identity.{same-stacks}
 use Rattle.arena.specs.Place.{mergeS}
 use Rattle.arena.specs.Placed.{grew-tree, grew-length}
-use Rattle.arena.specs.Steps.{merge-holds, merge-grew, merge-same, merge-sides}
+use Rattle.arena.specs.Steps.{merge-holds, merge-grew, merge-same}
 use Rattle.arena.specs.Numbering.{parts, Joins}
 use Rattle.arena.specs.Numbering.Laws.{merge-numbers}
 use Rattle.arena.specs.Below.Laws.{tree-below, merge-below, place-below}
@@ -36,16 +36,21 @@ use Rattle.encoding.specs.Decide.{sound}
 use Rattle.encoding.specs.Decide.Laws.{sound-true}
 use Rattle.store.specs.Checks.{order, due}
 use Rattle.store.specs.Checks.Laws.{inOrder}
-use Rattle.store.specs.Calls.{refused, Left, leaves, refusal, made, Accepts}
-use Rattle.store.specs.Calls.Laws.{refused-exactly, refused-leaves, accepted, right-lengths, is-sound, both-known, has-room}
-use Rattle.store.specs.Nested.{ifKnown, grown}
+use Rattle.words.specs.Refusals.{number}
+use Rattle.work.specs.Counted.{counting, refused as over, countOf}
+use Rattle.work.specs.Theorems.{else-answered, count-within}
+use Rattle.store.specs.Told.{number-tells}
+use Rattle.store.specs.Calls.{refused, context, Left, refusal, madeAfter, Accepts}
+use Rattle.store.specs.Calls.Laws.{refused-exactly, refused-leaves, accepted, right-lengths, is-sound, both-known, has-room, little-work, accepted-merges}
+use Rattle.store.specs.Nested.{ifKnown}
 use Rattle.store.specs.Admit.{known-goes, unknown}
 use Rattle.interning.specs.SingletonCall.Laws.{checked-agree}
-use Rattle.interning.specs.Replies.{numbered}
-use Rattle.interning.specs.Promises.{After, after-of, no-refusal, call-determined}
-use Rattle.interning.specs.declared.single.Numbered.{Numbered}
+use Rattle.interning.specs.Promises.{After, after-of, no-refusal}
 use Rattle.contexts.specs.MergeCall.{mergeChecks, mergeCall}
-use Rattle.contexts.specs.MergeCall.Laws.{merge-nested}
+use Rattle.contexts.specs.MergeCall.Laws.{merge-nested, worked-sides}
+use Rattle.contexts.specs.Replies.{merged}
+use Rattle.contexts.specs.declared.merges.Merged.{Merged}
+use Rattle.contexts.specs.declared.merges.Merged.the-variants.{Number, Refused}
 
 -- ---- an accepted merge
 
@@ -55,6 +60,7 @@ module _ (w z : List ℕ) (a b : ℕ) (m : Bool) (c : ℕ) (w′ : List ℕ) (ok
     pub good : GoodStore (storeOf w)
     pub words : w ≡ wordsOf (storeOf w)
     pub known : (a < contexts w) × (b < contexts w)
+    pub light : counting m (storeOf w) a b ≡ over 12 → ⊥
     pub fits : Fits (mergeS m (storeOf w) a b .1)
     pub number : mergeS m (storeOf w) a b .0 ≡ c
     pub after : wordsOf (mergeS m (storeOf w) a b .1) ≡ w′
@@ -62,7 +68,7 @@ module _ (w z : List ℕ) (a b : ℕ) (m : Bool) (c : ℕ) (w′ : List ℕ) (ok
   passed : Passed
   unfolding mergeCall mergeChecks
   passed =
-      let r = accepted w z _ (mergeS m (storeOf w) a b) c w′ ok in
+      let r = accepted w z _ (countOf (counting m (storeOf w) a b)) (mergeS m (storeOf w) a b) c w′ ok in
       let l = right-lengths w z (r .0 .0) .0 in
       let d = decoded w l (sound-true w l (is-sound w z (r .0 .1 .0))) in
       record {
@@ -70,7 +76,8 @@ module _ (w z : List ℕ) (a b : ℕ) (m : Bool) (c : ℕ) (w′ : List ℕ) (ok
         good = d .0;
         words = d .1;
         known = both-known w z a b (r .0 .1 .1 .0);
-        fits = has-room _ (r .0 .1 .1 .1 .0);
+        light = little-work _ (r .0 .1 .1 .1 .0);
+        fits = has-room _ (r .0 .1 .1 .1 .1 .0);
         number = r .1;
         after = r .2;
       }
@@ -172,7 +179,7 @@ sides-exchanged w z a b m =
     checked-agree w z _ _ (λ l s. known-swapped w a b _ _ (λ p q.
     let g : GoodStore (storeOf w) = decoded w l (sound-true w l s) .0 in
     let n = store-length w (contexts w) in
-    ap (grown w) (merge-sides m (storeOf w) (g .sound) a b (rw n p) (rw n q)))) ∙
+    worked-sides w a b m (g .sound) (rw n p) (rw n q))) ∙
     sym (merge-nested w z b a m)
 
 -- ---- numbers and stacks, over the words of a sound store
@@ -189,11 +196,17 @@ equal-exactly w l s a b h k =
 module _ (w z : List ℕ) (a b : ℕ) (m : Bool) (n : ℕ) where
   pub merge-refused-exactly : (mergeCall w z a b m .reply ≡ refused n) ↔ (due (mergeChecks w z a b m) ≡ at n)
   unfolding mergeCall
-  merge-refused-exactly = let x = mergeS m (storeOf w) a b in refused-exactly w z (mergeChecks w z a b m) (made x) (no-refusal x) n
+  merge-refused-exactly =
+      let x = mergeS m (storeOf w) a b in
+      let k = countOf (counting m (storeOf w) a b) in
+      refused-exactly w z (mergeChecks w z a b m) (madeAfter k x) (no-refusal k x) n
 
   pub merge-refused-leaves : mergeCall w z a b m .reply ≡ refused n → mergeCall w z a b m ≡ refusal w z n
   unfolding mergeCall
-  merge-refused-leaves = let x = mergeS m (storeOf w) a b in refused-leaves w z (mergeChecks w z a b m) (made x) (no-refusal x) n
+  merge-refused-leaves =
+      let x = mergeS m (storeOf w) a b in
+      let k = countOf (counting m (storeOf w) a b) in
+      refused-leaves w z (mergeChecks w z a b m) (madeAfter k x) (no-refusal k x) n
 
   pub merge-in-order : inOrder order (mergeChecks w z a b m) ≡ true
   unfolding mergeChecks inOrder
@@ -201,6 +214,40 @@ module _ (w z : List ℕ) (a b : ℕ) (m : Bool) (n : ℕ) where
 
 -- ---- any two outcomes that satisfy the contract for the same input are equal
 
-pub merge-determined : (w z : List ℕ) (l r : ℕ) (m : Bool) (a b : Numbered) (u v y x : List ℕ)
-    → leaves (numbered a) u y ≡ mergeCall w z l r m → leaves (numbered b) v x ≡ mergeCall w z l r m → (a ≡ b) × (u ≡ v) × (y ≡ x)
-merge-determined w z l r m a b u v y x = call-determined (mergeCall w z l r m) a b u v y x
+merged-tells : (a b : Merged) (u v y x : List ℕ) → merged a u y ≡ merged b v x → a ≡ b
+merged-tells (Number c n) (Number d k) u v y x e =
+    let f : context (c .0) ≡ context (d .0) = ap (λ (o : Left). o .reply) e in
+    let i : c .0 ≡ d .0 = cc in
+    ap (λ (j : ℕ). Number (record { 0 = j }) n) i ∙ ap (Number d) (ap (λ (o : Left). o .merges) e)
+merged-tells (Number c n) (Refused g) u v y x e = let f : context (c .0) ≡ refused (number g) = ap (λ (o : Left). o .reply) e in cc
+merged-tells (Refused f) (Number d k) u v y x e = let g : refused (number f) ≡ context (d .0) = ap (λ (o : Left). o .reply) e in cc
+merged-tells (Refused f) (Refused g) u v y x e = ap Refused (number-tells f g (ap (λ (o : Left). o .reply) e))
+
+words-tell : (a b : Merged) (u v y x : List ℕ) → merged a u y ≡ merged b v x → (u ≡ v) × (y ≡ x)
+words-tell (Number c n) (Number d k) u v y x e = (ap (λ (o : Left). o .store) e, ap (λ (o : Left). o .scratch) e)
+words-tell (Number c n) (Refused g) u v y x e = (ap (λ (o : Left). o .store) e, ap (λ (o : Left). o .scratch) e)
+words-tell (Refused f) (Number d k) u v y x e = (ap (λ (o : Left). o .store) e, ap (λ (o : Left). o .scratch) e)
+words-tell (Refused f) (Refused g) u v y x e = (ap (λ (o : Left). o .store) e, ap (λ (o : Left). o .scratch) e)
+
+pub merge-determined : (w z : List ℕ) (l r : ℕ) (m : Bool) (a b : Merged) (u v y x : List ℕ)
+    → merged a u y ≡ mergeCall w z l r m → merged b v x ≡ mergeCall w z l r m → (a ≡ b) × (u ≡ v) × (y ≡ x)
+merge-determined w z l r m a b u v y x p q =
+    let e : merged a u y ≡ merged b v x = p ∙ sym q in
+    let o = words-tell a b u v y x e in
+    (merged-tells a b u v y x e, o .0, o .1)
+
+-- ---- what is counted
+
+-- An accepted merge counts what the definition counts, and never more than the ceiling.
+pub merge-counts : (w z : List ℕ) (a b : ℕ) (m : Bool) (c : ℕ) (w′ : List ℕ) → Accepts (mergeCall w z a b m) c w′
+    → (mergeCall w z a b m .merges ≡ countOf (counting m (storeOf w) a b)) × (mergeCall w z a b m .merges ≤ 65536)
+unfolding mergeCall mergeChecks countOf
+merge-counts w z a b m c w′ ok =
+    let s = storeOf w in
+    let is = accepted-merges w z (mergeChecks w z a b m) (countOf (counting m s a b)) (mergeS m s a b) c w′ ok in
+    let v = passed w z a b m c w′ ok in
+    let l = ha w z a b m c w′ ok in
+    let r = hb w z a b m c w′ ok in
+    let e = else-answered m s a b (v .good .sound) (v .good .fits) l r (v .light) (v .fits) in
+    let few = count-within m s a b (v .good .sound) (v .good .fits) l r _ (e .0) (e .1) in
+    (is, rw (is, e .1) few)

@@ -1,7 +1,6 @@
-// The merge of two contexts: the cycle of merges, and the call over it.
-mod cycle;
-mod finish;
+// The merge of two contexts as a call.
 pub mod inner;
 mod merges;
 
+pub use merges::Merged;
 pub use merges::merge;

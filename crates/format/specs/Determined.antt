@@ -7,13 +7,15 @@ use lib.ListN.{length}
 use Rattle.sets.specs.Config.{Config}
 use Rattle.setcheck.specs.declared.config.AtnConfig.{AtnConfig}
 use Rattle.format.specs.declared.records.Record.{Record}
-use Rattle.format.specs.declared.records.Record.the-variants.{Singleton, Merge, NewSet, Add, Stops, Verdict, Show, Close}
+use Rattle.format.specs.declared.records.Record.the-variants.{Singleton, Merge, Show, Stops, OnSet}
+use Rattle.format.specs.declared.records.SetRecord.{SetRecord}
+use Rattle.format.specs.declared.records.SetRecord.the-variants.{NewSet, Add, Verdict, Close, Why}
 use Rattle.format.specs.declared.records.Step.{Step}
 use Rattle.format.specs.declared.records.Step.the-variants.{Found, End, Malformed}
 use Rattle.format.specs.Bytes.{wordsAt}
 use Rattle.format.specs.Bytes.Laws.{length-words}
-use Rattle.format.specs.Format.{singleton, merge, newSet, add, stops, verdict, show, close, Reading, found, ended, malformed, readAt, Record as Call}
-use Rattle.format.specs.Answers.{callIn, reading, Before, Placed}
+use Rattle.format.specs.Format.{singleton, merge, newSet, add, stops, verdict, show, close, why, Reading, found, ended, malformed, readAt, Record as Call}
+use Rattle.format.specs.Answers.{setCall, callIn, reading, Before, Placed}
 
 unfoldable atnConfig : Config → AtnConfig
 atnConfig x = record {
@@ -29,26 +31,32 @@ atnConfig x = record {
 unfoldable recordOf : ℕ → Call → Record
 recordOf e (singleton p r) = Singleton (record { 0 = p }) (record { 0 = r })
 recordOf e (merge a b m) = Merge (record { 0 = a }) (record { 0 = b }) m
-recordOf e (newSet m) = NewSet m
-recordOf e (add x) = Add (atnConfig x)
+recordOf e (newSet m) = OnSet (NewSet m)
+recordOf e (add x) = OnSet (Add (atnConfig x))
 recordOf e (stops xs) = Stops (e - 4 * length xs) (length xs)
-recordOf e verdict = Verdict
+recordOf e verdict = OnSet Verdict
 recordOf e (show c) = Show (record { 0 = c })
-recordOf e close = Close
+recordOf e close = OnSet Close
+recordOf e why = OnSet Why
+
+set-back : (e : ℕ) (r : SetRecord) → recordOf e (setCall r) ≡ OnSet r
+unfolding recordOf atnConfig
+set-back e (NewSet m) = refl
+set-back e (Add x) = refl
+set-back e Verdict = refl
+set-back e Close = refl
+set-back e Why = refl
 
 record-back : (s : List ℕ) (e : ℕ) (r : Record) → Before s e r → recordOf e (callIn s r) ≡ r
 unfolding recordOf atnConfig
 record-back s e (Singleton p r) b = refl
 record-back s e (Merge x y m) b = refl
-record-back s e (NewSet m) b = refl
-record-back s e (Add x) b = refl
 record-back s e (Stops p n) b =
     let l : length (wordsAt s p n) ≡ n = length-words s p n in
     let q : e - 4 * n ≡ p = omega (arith, b .0) in
     ap (λ (k : ℕ). Stops (e - 4 * k) k) l ∙ ap (λ (k : ℕ). Stops k n) q
-record-back s e Verdict b = refl
 record-back s e (Show c) b = refl
-record-back s e Close b = refl
+record-back s e (OnSet x) b = set-back e x
 
 unfoldable answerOf : Reading → Step
 answerOf (found r j) = Found (recordOf j r) j

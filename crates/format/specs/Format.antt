@@ -10,7 +10,7 @@ use Rattle.format.specs.Bytes.{u16At, u32At, u64At, wordsAt}
 use Rattle.format.specs.Payloads.{payloadOf, accepts}
 
 -- a record: a singleton's parent and state; a merge's two sides, and whether by wildcard; a new set, and whether it merges by wildcard;
--- the config that is added; the stop states; the verdict; the context that is shown; the set is closed
+-- the config that is added; the stop states; the verdict; the context that is shown; the set is closed; why the verdict is what it is
 pub data Record : Type 0 where
   singleton : ℕ → ℕ → Record
   merge : ℕ → ℕ → Bool → Record
@@ -20,6 +20,7 @@ pub data Record : Type 0 where
   verdict : Record
   show : ℕ → Record
   close : Record
+  why : Record
 
 -- what stands at a place: a record, and where the next one starts; the end; or what no record is
 pub data Reading : Type 0 where
@@ -56,7 +57,8 @@ payloadAt s k p e =
     (ifKind (eqb k 6) (found verdict e)
     (ifKind (eqb k 7) (found (show (u32At s p)) e)
     (ifKind (eqb k 8) (found close e)
-    malformed)))))))
+    (ifKind (eqb k 9) (found why e)
+    malformed))))))))
 
 -- a record whose payload has n bytes and is of kind k; its header starts at i
 unfoldable pub recordAt : List ℕ → ℕ → ℕ → ℕ → Reading

@@ -12,10 +12,10 @@ pub data Payload : Type 0 where
   fours : Payload
   none : Payload
 
--- "Kinds and lengths: 1 singleton 12; 2 merge 9; 3 new set 1; 4 add 24; 5 stop states, a multiple of 4; 6 verdict 0; 7 show 4; 8 close 0";
--- there is no kind 0
+-- "Kinds and lengths: 1 singleton 12; 2 merge 9; 3 new set 1; 4 add 24; 5 stop states, a multiple of 4; 6 verdict 0; 7 show 4; 8 close 0"; and
+-- "(kind 9, no payload)" (request A6); there is no kind 0
 unfoldable pub payloads : List Payload
-payloads = none ∷ exactly 12 ∷ exactly 9 ∷ exactly 1 ∷ exactly 24 ∷ fours ∷ exactly 0 ∷ exactly 4 ∷ exactly 0 ∷ []
+payloads = none ∷ exactly 12 ∷ exactly 9 ∷ exactly 1 ∷ exactly 24 ∷ fours ∷ exactly 0 ∷ exactly 4 ∷ exactly 0 ∷ exactly 0 ∷ []
 
 unfoldable pub payloadOf : ℕ → Payload
 payloadOf k = getD payloads k none

@@ -4,5 +4,6 @@ mod payloads;
 mod records;
 
 pub use records::Record;
+pub use records::SetRecord;
 pub use records::Step;
 pub use records::decode;

@@ -9,14 +9,14 @@ const VARIABLE: u32 = 16384;
 // No kind.
 const NO_KIND: u32 = 32768;
 
-// By kind: none, singleton, merge, new set, add, stop states, verdict, show, close.
-const PAYLOADS: [u32; 9] = [NO_KIND, 12, 9, 1, 24, VARIABLE, 0, 4, 0];
+// By kind: none, singleton, merge, new set, add, stop states, verdict, show, close, why.
+const PAYLOADS: [u32; 10] = [NO_KIND, 12, 9, 1, 24, VARIABLE, 0, 4, 0, 0];
 
 // The table's entry of a kind; a kind past the table is none.
 fn entry_of(kind: usize) -> u32
     ensures { λ r. ⌜ r ≡ entry (payloadOf kind) ⌝ }
 {
-    if 8 < kind {
+    if 9 < kind {
         return NO_KIND;
     }
     PAYLOADS[kind]

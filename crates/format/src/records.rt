@@ -20,18 +20,24 @@ ghost use Rattle.format.specs.Whole.{NoContexts, Whole};
 // The modes are 0, full, and 1, wildcard.
 const LAST_MODE: u8 = 1;
 
-// A record: a state over a parent; two contexts to merge, and whether by wildcard; a new set, and
-// whether it merges by wildcard; a config to add; stop states, by the place of their words and
-// their number; a verdict; a context to show; a set to close.
+// A record on the set: a new one, and whether it merges by wildcard; a config to add; a verdict; a
+// set to close; why the verdict is what it is.
+pub enum SetRecord {
+    NewSet(bool),
+    Add(AtnConfig),
+    Verdict,
+    Close,
+    Why,
+}
+
+// A record: a state over a parent; two contexts to merge, and whether by wildcard; a context to
+// show; stop states, by the place of their words and their number; or one on the set.
 pub enum Record {
     Singleton(ContextId, ReturnState),
     Merge(ContextId, ContextId, bool),
-    NewSet(bool),
-    Add(AtnConfig),
-    Stops(usize, usize),
-    Verdict,
     Show(ContextId),
-    Close,
+    Stops(usize, usize),
+    OnSet(SetRecord),
 }
 
 // What stands at a place: a record, with the place of the next one; the end; or what no record is.
@@ -64,7 +70,7 @@ fn read_new_set(bytes: &[u8], at: usize, next: usize) -> Step
     if LAST_MODE < mode {
         return Step::Malformed;
     }
-    Step::Found(Record::NewSet(mode == 1), next)
+    Step::Found(Record::OnSet(SetRecord::NewSet(mode == 1)), next)
 }
 
 // Reads a config, of 24 bytes from `at` on.
@@ -91,16 +97,20 @@ fn read_set_payload(bytes: &[u8], kind: u32, at: usize, next: usize) -> Step
         return read_new_set(bytes, at, next);
     }
     if kind == 4 {
-        return Step::Found(Record::Add(read_config(bytes, at)), next);
+        let config = read_config(bytes, at);
+        return Step::Found(Record::OnSet(SetRecord::Add(config)), next);
     }
     if kind == 5 {
         return Step::Found(Record::Stops(at, (next - at) / 4), next);
     }
     if kind == 6 {
-        return Step::Found(Record::Verdict, next);
+        return Step::Found(Record::OnSet(SetRecord::Verdict), next);
     }
     if kind == 8 {
-        return Step::Found(Record::Close, next);
+        return Step::Found(Record::OnSet(SetRecord::Close), next);
+    }
+    if kind == 9 {
+        return Step::Found(Record::OnSet(SetRecord::Why), next);
     }
     Step::Malformed
 }

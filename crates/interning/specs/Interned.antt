@@ -12,6 +12,9 @@ use Rattle.index.specs.Records.{Proper, stackNode}
 use Rattle.interning.specs.Live.{Pushed, GrewTo}
 use Rattle.interning.specs.declared.inner.intern.Made.{Made}
 use Rattle.interning.specs.declared.inner.intern.Made.the-variants.{At, NoRoom}
+use Rattle.interning.specs.declared.single.Numbered.{Numbered}
+use Rattle.interning.specs.declared.single.Numbered.the-variants.{Number, Refused}
+use Rattle.words.specs.declared.refusals.Refusal.the-variants.{FullStore}
 
 abbrev pub Interns : List ℕ → List ℕ → ℕ → ℕ → Made → List ℕ → List ℕ → Type 0
 Interns w z at n (At c) w′ u = GrewTo z u w′ (intern (storeOf w) (stackNode z at n)) (c .0)
@@ -23,3 +26,8 @@ pub record Missing (w z : List ℕ) (at n h : ℕ) : Type 0 where
   pub proper : Proper z at n
   pub hashed : h ≡ nodeHash (hash (storeOf w)) (stackNode z at n)
   pub missing : find (stackNode z at n) (storeOf w) ≡ nowhere
+
+-- the answer of a call that interned
+abbrev pub answered : Made → Numbered
+answered (At c) = Number c
+answered NoRoom = Refused FullStore

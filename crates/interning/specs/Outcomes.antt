@@ -35,16 +35,12 @@ use Rattle.store.specs.Nested.{grown}
 use Rattle.interning.specs.Live.{Live, Pushed, live-count, ready-live}
 use Rattle.interning.specs.SingletonCall.Laws.{singleton-nested, ifState, placedSingle}
 use Rattle.interning.specs.SingletonCall.{singletonCall}
-use Rattle.interning.specs.Interned.{Interns}
+use Rattle.interning.specs.Interned.{Interns, answered}
+use Rattle.interning.specs.Replies.{numbered}
 use Rattle.interning.specs.declared.inner.intern.Made.{Made}
 use Rattle.interning.specs.declared.inner.intern.Made.the-variants.{At, NoRoom}
 
 -- ---- a context that is made, or no room
-
--- what `Made` stands for as a reply: 6 where there is no room
-abbrev pub madeReply : Made → Reply
-madeReply (At c) = context (c .0)
-madeReply NoRoom = refused 6
 
 module _ (w : List ℕ) (x : ℕ × Store) where
   pub grown-fits : (w′ : List ℕ) (c : ℕ) → Fits (x .1) → c ≡ x .0 → w′ ≡ wordsOf (x .1) → leaves (context c) w′ zeros ≡ grown w x
@@ -115,7 +111,7 @@ module _ (w z : List ℕ) (v : Live w z) (p r : ℕ) (hp : p < count w) (hr : r 
 -- ---- what a call that interned leaves
 
 pub interned-left : (w z : List ℕ) (place n : ℕ) (x : ℕ × Store) (made : Made) (w′ u : List ℕ) → x ≡ intern (storeOf w) (stackNode z place n)
-    → Interns w z place n made w′ u → leaves (madeReply made) w′ zeros ≡ grown w x
+    → Interns w z place n made w′ u → leaves (numbered (answered made)) w′ zeros ≡ grown w x
 interned-left w z place n x (At c) w′ u e g =
     let o : storeOf w′ ≡ x .1 = g .store ∙ ap (λ (y : ℕ × Store). y .1) (sym e) in
     grown-fits w x w′ (c .0) (rw (← o) (g .live .good .fits)) (g .number ∙ ap (λ (y : ℕ × Store). y .0) (sym e)) (g .live .words ∙ ap wordsOf o)

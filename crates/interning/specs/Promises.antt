@@ -35,7 +35,7 @@ use Rattle.encoding.specs.Decide.Laws.{sound-true, words-sound}
 use Rattle.encoding.specs.Written.{words-count}
 use Rattle.store.specs.Checks.{order, due}
 use Rattle.store.specs.Checks.Laws.{inOrder}
-use Rattle.store.specs.Calls.{refused, Left, leaves, refusal, made, Accepts}
+use Rattle.store.specs.Calls.{refused, Left, leaves, refusal, made, madeAfter, Accepts}
 use Rattle.store.specs.Calls.Laws.{determined, refused-exactly, refused-leaves, accepted, right-lengths, is-sound, is-known, has-room}
 use Rattle.store.specs.Told.{number-tells}
 use Rattle.interning.specs.SingletonCall.{singleS, singletonChecks, singletonCall}
@@ -75,7 +75,7 @@ module _ (w z : List ℕ) (p r : ℕ) (c : ℕ) (w′ : List ℕ) (ok : Accepts 
   passed : Passed
   unfolding singletonCall singletonChecks
   passed =
-      let a = accepted w z _ (singleS (storeOf w) p r) c w′ ok in
+      let a = accepted w z _ 0 (singleS (storeOf w) p r) c w′ ok in
       let l = right-lengths w z (a .0 .0) .0 in
       let s = is-sound w z (a .0 .1 .0) in
       let d = decoded w l (sound-true w l s) in record {
@@ -183,17 +183,17 @@ module _ (w z : List ℕ) (p r : ℕ) (c : ℕ) (w′ : List ℕ) (ok : Accepts 
 
 -- ---- a refused singleton: exactly when, and with nothing changed
 
-pub no-refusal : (x : ℕ × Store) (n : ℕ) → made x .reply ≡ refused n → ⊥
-no-refusal x n e = never (cc)
+pub no-refusal : (k : ℕ) (x : ℕ × Store) (n : ℕ) → madeAfter k x .reply ≡ refused n → ⊥
+no-refusal k x n e = never (cc)
 
 module _ (w z : List ℕ) (p r n : ℕ) where
   pub singleton-refused-exactly : (singletonCall w z p r .reply ≡ refused n) ↔ (due (singletonChecks w z p r) ≡ at n)
   unfolding singletonCall
-  singleton-refused-exactly = let x = singleS (storeOf w) p r in refused-exactly w z (singletonChecks w z p r) (made x) (no-refusal x) n
+  singleton-refused-exactly = let x = singleS (storeOf w) p r in refused-exactly w z (singletonChecks w z p r) (made x) (no-refusal 0 x) n
 
   pub singleton-refused-leaves : singletonCall w z p r .reply ≡ refused n → singletonCall w z p r ≡ refusal w z n
   unfolding singletonCall
-  singleton-refused-leaves = let x = singleS (storeOf w) p r in refused-leaves w z (singletonChecks w z p r) (made x) (no-refusal x) n
+  singleton-refused-leaves = let x = singleS (storeOf w) p r in refused-leaves w z (singletonChecks w z p r) (made x) (no-refusal 0 x) n
 
   pub singleton-in-order : inOrder order (singletonChecks w z p r) ≡ true
   unfolding singletonChecks inOrder

@@ -15,7 +15,7 @@ ghost use Rattle.store.specs.Calls.{leaves};
 ghost use Rattle.interning.specs.SingletonCall.Laws.{placedSingle};
 ghost use Rattle.interning.specs.SingletonCall.{singletonCall};
 ghost use Rattle.interning.specs.Live.{Live};
-ghost use Rattle.interning.specs.Outcomes.{madeReply};
+ghost use Rattle.interning.specs.Interned.{answered};
 ghost use Rattle.interning.specs.Replies.{numbered};
 
 // What a call that may make a context answers.
@@ -26,7 +26,7 @@ pub enum Numbered {
 
 // The answer of a call that has made its context, or had no room for it.
 pub fn answer(made: Made) -> Numbered
-    ensures { λ r. ⌜ numbered r ≡ madeReply made ⌝ }
+    ensures { λ r. ⌜ r ≡ answered made ⌝ }
 {
     match made {
         Made::At(context) => Numbered::Number(context),

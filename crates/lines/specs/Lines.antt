@@ -7,6 +7,8 @@ use Rattle.arena.specs.Store.{Node, end, dollar, push}
 use Rattle.arena.specs.Kinds.{size}
 use Rattle.layout.specs.Layout.{count, used}
 use Rattle.groups.specs.Answers.{Answer, none, only}
+use Rattle.groups.specs.Reason as Reasons
+use Rattle.groups.specs.Reason.{Reason, stop, one, clash}
 use Rattle.lines.specs.Decimal.{decimal}
 
 -- bytes of the buffer in which a line is laid
@@ -50,6 +52,18 @@ verdictBytes false = spaced 0
 -- "`V` subset count, unique alternative, viable alternative, verdict 1 or 0"
 unfoldable pub figuresLine : ℕ → Answer → Answer → Bool → List ℕ
 figuresLine n unique viable verdict = 86 ∷ spaced n ++ alternativeBytes unique ++ alternativeBytes viable ++ verdictBytes verdict ++ 10 ∷ []
+
+-- numbers, with a space before each
+unfoldable pub spacedAll : List ℕ → List ℕ
+spacedAll [] = []
+spacedAll (x ∷ xs) = spaced x ++ spacedAll xs
+
+-- "`W stop`, `W none`, `W one` s a, and `W clash` state, context, alternatives rising" (request A6)
+unfoldable pub reasonLine : Reason → List ℕ
+reasonLine stop = 87 ∷ 32 ∷ 115 ∷ 116 ∷ 111 ∷ 112 ∷ 10 ∷ []
+reasonLine Reasons.none = 87 ∷ 32 ∷ 110 ∷ 111 ∷ 110 ∷ 101 ∷ 10 ∷ []
+reasonLine (one s a) = 87 ∷ 32 ∷ 111 ∷ 110 ∷ 101 ∷ spaced s ++ spaced a ++ 10 ∷ []
+reasonLine (clash s k xs) = 87 ∷ 32 ∷ 99 ∷ 108 ∷ 97 ∷ 115 ∷ 104 ∷ spaced s ++ spaced k ++ spacedAll xs ++ 10 ∷ []
 
 -- "`K`"
 unfoldable pub closedLine : List ℕ

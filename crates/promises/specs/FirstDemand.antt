@@ -18,7 +18,10 @@ use Rattle.encoding.specs.Decide.Laws.{fits-true, true-fits}
 use Rattle.store.specs.Checks.{Check, order, due}
 use Rattle.store.specs.Checks.Laws.{in-order}
 use Rattle.store.specs.Calls as Stores
-use Rattle.store.specs.Calls.{wrongLength, unknownContext, noRoom, askChecks, freshCall}
+use Rattle.store.specs.Calls.{wrongLength, unknownContext, tooMuchWork, noRoom, askChecks, freshCall}
+use Rattle.work.specs.Counted as Work
+use Rattle.work.specs.Counted.{Outcome}
+use Rattle.work.specs.Counted.Laws.{too-much, is-too-much}
 use Rattle.store.specs.Told.{fresh-refused-exactly, fresh-refused-leaves}
 use Rattle.interning.specs.SingletonCall.{singletonChecks, singletonCall}
 use Rattle.interning.specs.Promises.{singleton-refused-exactly, singleton-refused-leaves}
@@ -118,6 +121,10 @@ pub reason-8 : (k : ℕ) (v : List ℕ) (x : Config) → SoundSet k v
     → ((not (any (sameKey x) (setOf v .configs)) && leb mostConfigs (length (setOf v .configs))) ≡ true)
     ↔ (((i : ℕ) → i < configCount v → key (configAt v i) ≡ key x → ⊥) × (configCount v ≡ mostConfigs))
 reason-8 = full-exactly
+
+-- 12: "too much work": the counted merge is refused 12, and so the left side has 65,536 entries or more, counted at each depth (work: `refusal-is`)
+pub reason-12 : (o : Outcome ℕ) → (tooMuchWork o .holds ≡ true) ↔ (o ≡ Work.refused 12)
+reason-12 o = (too-much o, is-too-much o)
 
 -- 6: "the same call in a store without ceilings would end above 512 contexts or 2,048 entries"
 pub reason-6 : (s : Store) → (noRoom s .holds ≡ true) ↔ ((length s ≤ mostContexts) × (pool s ≤ mostEntries) → ⊥)

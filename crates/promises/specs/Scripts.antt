@@ -11,10 +11,10 @@ use Rattle.format.specs.Format.{Record}
 use Rattle.lines.specs.Lines.{endLine}
 use Rattle.replies.specs.Replies.{Lent, callOf}
 use Rattle.replies.specs.Zeros.{call-zero}
-use Rattle.script.specs.Steps.{stepOf, runOf, scriptReplies}
-use Rattle.script.specs.Steps.Laws.{step-zero}
+use Rattle.steps.specs.Steps.{stepOf, runOf, scriptReplies}
+use Rattle.steps.specs.Steps.Laws.{step-zero}
 use Rattle.script.specs.Leads.{run-leads, end-line}
-use Rattle.script.specs.Examples.{script, example}
+use Rattle.examples.specs.Examples.{script, example}
 
 -- "Scratch: 16,384 u32 words, any contents on entry, all 0 on return": of each record's call, refused or not, over slices of the right lengths, and of
 -- each step of a script
@@ -49,6 +49,6 @@ pub the-example : scriptReplies (
 unfolding script
 the-example = example
 
--- "Marked P: proved as one table over the definitions, by a single statement": script: Examples `P1-to-P12`, whose one home is there.
+-- "Marked P: proved as one table over the definitions, by a single statement": examples: `P1-to-P12`, whose one home is there.
 -- "`R 9`, then only the end line": the definition `stepOf` says so of every place and every byte, and `run_step` is its equation; a script's own
 -- `R 10` is `stopsCall`. That any two outcomes of a call are equal is proved beside each call (`Determined`, in each crate).

@@ -49,7 +49,7 @@ use Rattle.sets.specs.Sets.{key}
 use Rattle.sets.specs.Words.{setOf, SoundSet, soundSet, bit}
 use Rattle.sets.specs.Sound.{sound-set-true, true-sound-set}
 use Rattle.sets.specs.Calls as Sets
-use Rattle.sets.specs.Calls.{freshSetCall, addCall, closeCall}
+use Rattle.sets.specs.Calls.{Adds, freshSetCall, addCall, closeCall}
 use Rattle.configs.specs.Sentences as Added
 use Rattle.groups.specs.Lists.{All}
 use Rattle.groups.specs.Groups.{Group, groups}
@@ -68,7 +68,7 @@ use Rattle.outputs.specs.Outputs.{subsetsLength, altsLength, padded, groupWords
 use Rattle.verdicts.specs.Calls.{alternative, says, mostStops, conflictingAltSubsetsCall, conflictingAltsCall, uniqueAltCall, singleViableAltCall}
 use Rattle.verdicts.specs.Calls.{allSubsetsConflictCall, allSubsetsEqualCall, tooManyStops, verdictCall, VerdictLeft}
 use Rattle.verdicts.specs.Sentences as Judged
-use Rattle.promises.specs.Words.{store-sound, known, asks, lent, answers, add-leaves, close-leaves}
+use Rattle.promises.specs.Words.{store-sound, known, asks, lent, answers, close-leaves}
 
 -- "equal the Rust's within our capacities (differential runs)": no theorem, but the gate's comparisons with the Rust that is ported, in rust/.
 
@@ -190,23 +190,22 @@ pub fresh-set : (v : List ℕ) (f : Bool) (v′ : List ℕ) → freshSetCall v f
     → (getD v′ 1 0 ≡ bit f 1) × ((j : ℕ) → j < setWordsLength → (j ≡ 1 → ⊥) → getD v′ j 0 ≡ 0) × ((k : ℕ) → SoundSet k v′)
 fresh-set v f v′ ok = (Added.fresh-flag v f v′ ok, Added.fresh-zeros v f v′ ok, Added.fresh-sound v f v′ ok)
 
-module _ (w v z : List ℕ) (x : Config) (a : ℕ) (w′ v′ : List ℕ) 
-    (ok : (addCall w v z x .reply ≡ Sets.added a) × (addCall w v z x .store ≡ w′) × (addCall w v z x .set ≡ v′)) where
+module _ (w v z : List ℕ) (x : Config) (a : ℕ) (w′ v′ : List ℕ) (ok : Adds (addCall w v z x) a w′ v′) where
   -- "On a known key the contexts are merged (wildcard unless flag 1), reach becomes the larger, bit 31 the OR of both, answer "merged".": 0
   module _ (i : ℕ) (here : i < configCount v) (same : key (configAt v i) ≡ key x) where
     pub add-merges : (a ≡ 0) × (configCount v′ ≡ configCount v) × (key (configAt v′ i) ≡ key x)
-        × (mergeCall w z (configAt v i .context) (x .context) (not (flag 1 v)) ≡ leaves (Stores.context (configAt v′ i .context)) w′ zeros)
+        × Accepts (mergeCall w z (configAt v i .context) (x .context) (not (flag 1 v))) (configAt v′ i .context) w′
         × (configAt v′ i .reach ≡ max (configAt v i .reach) (x .reach))
         × (markOf (configAt v′ i .provenance) ≡ max (markOf (configAt v i .provenance)) (markOf (x .provenance)))
         × ((j : ℕ) → j < configCount v → (j ≡ i → ⊥) → configAt v′ j ≡ configAt v j)
     add-merges = (
-      Added.merged-answer w v z x a w′ v′ (add-leaves w v z x a w′ v′ ok) i here same,
-      Added.merged-count w v z x a w′ v′ (add-leaves w v z x a w′ v′ ok) i here same,
-      Added.merged-key w v z x a w′ v′ (add-leaves w v z x a w′ v′ ok) i here same,
-      Added.merged-call w v z x a w′ v′ (add-leaves w v z x a w′ v′ ok) i here same,
-      Added.merged-reach w v z x a w′ v′ (add-leaves w v z x a w′ v′ ok) i here same,
-      Added.merged-mark w v z x a w′ v′ (add-leaves w v z x a w′ v′ ok) i here same,
-      Added.merged-others w v z x a w′ v′ (add-leaves w v z x a w′ v′ ok) i here same,
+      Added.merged-answer w v z x a w′ v′ ok i here same,
+      Added.merged-count w v z x a w′ v′ ok i here same,
+      Added.merged-key w v z x a w′ v′ ok i here same,
+      Added.merged-accepted w v z x a w′ v′ ok i here same,
+      Added.merged-reach w v z x a w′ v′ ok i here same,
+      Added.merged-mark w v z x a w′ v′ ok i here same,
+      Added.merged-others w v z x a w′ v′ ok i here same,
     )
 
     -- the config's context stands for the union of both in a full-context set, and for document 01's wildcard merge in another
@@ -214,7 +213,7 @@ module _ (w v z : List ℕ) (x : Config) (a : ℕ) (w′ v′ : List ℕ)
         → stands (storeOf w′) (configAt v′ i .context) σ ≡ (stands (storeOf w) (configAt v i .context) σ || stands (storeOf w) (x .context) σ))
         × (flag 1 v ≡ false → WildcardMerge (stands (storeOf w) (configAt v i .context)) (stands (storeOf w) (x .context)) (stands (storeOf w′) (configAt v′ i .context)))
     add-stands =
-        let r = Added.merged-stands w v z x a w′ v′ (add-leaves w v z x a w′ v′ ok) i here same in
+        let r = Added.merged-stands w v z x a w′ v′ ok i here same in
         (λ e. rw e at r, λ e. rw e at r)
 
   -- "Otherwise the config goes last, answer "inserted".": 1
@@ -222,20 +221,20 @@ module _ (w v z : List ℕ) (x : Config) (a : ℕ) (w′ v′ : List ℕ)
       → (a ≡ 1) × (w′ ≡ w) × (configCount v′ ≡ suc (configCount v)) × (configAt v′ (configCount v) ≡ x)
       × ((j : ℕ) → j < configCount v → configAt v′ j ≡ configAt v j)
   add-inserts new = (
-    Added.inserted-answer w v z x a w′ v′ (add-leaves w v z x a w′ v′ ok) new,
-    Added.inserted-store w v z x a w′ v′ (add-leaves w v z x a w′ v′ ok) new,
-    Added.inserted-count w v z x a w′ v′ (add-leaves w v z x a w′ v′ ok) new,
-    Added.inserted-last w v z x a w′ v′ (add-leaves w v z x a w′ v′ ok) new,
-    Added.inserted-others w v z x a w′ v′ (add-leaves w v z x a w′ v′ ok) new,
+    Added.inserted-answer w v z x a w′ v′ ok new,
+    Added.inserted-store w v z x a w′ v′ ok new,
+    Added.inserted-count w v z x a w′ v′ ok new,
+    Added.inserted-last w v z x a w′ v′ ok new,
+    Added.inserted-others w v z x a w′ v′ ok new,
   )
 
   -- store and set are sound afterwards, and the set's own flags are as they were
   pub add-sound : (sound w′ ≡ true) × SoundSet (contexts w′) v′ × (flag 1 v′ ≡ flag 1 v) × (flag 8 v′ ≡ false)
   add-sound = (
-    Added.sound-after w v z x a w′ v′ (add-leaves w v z x a w′ v′ ok) .0,
-    Added.sound-after w v z x a w′ v′ (add-leaves w v z x a w′ v′ ok) .1,
-    Added.full-kept w v z x a w′ v′ (add-leaves w v z x a w′ v′ ok),
-    Added.open-after w v z x a w′ v′ (add-leaves w v z x a w′ v′ ok),
+    Added.sound-after w v z x a w′ v′ ok .0,
+    Added.sound-after w v z x a w′ v′ ok .1,
+    Added.full-kept w v z x a w′ v′ ok,
+    Added.open-after w v z x a w′ v′ ok,
   )
 
 -- "Closing a set sets flag 8", and nothing else

@@ -1,5 +1,5 @@
 // The doors to the calls that write a set.
-use answers::Answer;
+use answers::CountedAnswer;
 use answers::added_answer;
 use answers::settled_number;
 use setcheck::AtnConfig;
@@ -8,8 +8,8 @@ use words::ContextId;
 use words::SemanticId;
 ghost use mathlib.Core.Path.{_≡_};
 ghost use Rattle.sets.specs.Calls.{addCall, closeCall, freshSetCall};
-ghost use Rattle.answers.specs.SetAnswers.{setAnswerOf, setNumberOf};
-ghost use Rattle.purse.specs.Doors.{OpensSet, byFullContext};
+ghost use Rattle.answers.specs.SetAnswers.{setNumberOf};
+ghost use Rattle.purse.specs.Doors.{OpensSet, OpensSetCounted, byFullContext};
 ghost use Rattle.sets.specs.Config.{config};
 
 // Makes the lent words a set without configs: by mode 0 full-context, by any other number not.
@@ -32,8 +32,8 @@ pub extern "C" fn purse_add(
     semantic: u32,
     reach: u32,
     provenance: u32,
-) -> Answer
-    ensures { λ r. ⌜ OpensSet setAnswerOf (addCall (now (store .entry)) (now (set .entry)) (now (scratch .entry)) (config state alternative context semantic reach provenance))
+) -> CountedAnswer
+    ensures { λ r. ⌜ OpensSetCounted (addCall (now (store .entry)) (now (set .entry)) (now (scratch .entry)) (config state alternative context semantic reach provenance))
         r (now (store .exit)) (now (set .exit)) (now (scratch .exit)) ⌝ }
 {
     let given = AtnConfig {

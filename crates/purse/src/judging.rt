@@ -2,14 +2,18 @@
 use answers::Answer;
 use answers::EntryAnswer;
 use answers::FiguresAnswer;
+use answers::ReasonAnswer;
 use answers::alt_answer;
 use answers::decided_answer;
 use answers::figures_answer;
+use answers::reason_answer;
 use answers::written_number;
 ghost use mathlib.Core.List.{[]};
 ghost use Rattle.verdicts.specs.Calls.{allSubsetsConflictCall, allSubsetsEqualCall, conflictingAltSubsetsCall, conflictingAltsCall, singleViableAltCall, uniqueAltCall, verdictCall};
 ghost use Rattle.figures.specs.Calls.{figuresCall};
+ghost use Rattle.reasons.specs.Calls.{whyCall};
 ghost use Rattle.answers.specs.FiguresAnswers.{figuresAnswerOf};
+ghost use Rattle.answers.specs.ReasonAnswers.{reasonAnswerOf};
 ghost use Rattle.answers.specs.VerdictAnswers.{altAnswerOf, verdictAnswerOf, verdictNumberOf};
 ghost use Rattle.purse.specs.Doors.{OpensVerdict};
 
@@ -105,4 +109,20 @@ pub extern "C" fn purse_figures(
     ensures { λ r. ⌜ OpensVerdict figuresAnswerOf (figuresCall (now (store .entry)) (now (set .entry)) (now (scratch .entry)) (now (stops .entry))) r (now (scratch .exit)) [] ⌝ }
 {
     figures_answer(figures::figures(store, set, scratch, stops))
+}
+
+// Why is the verdict with these stop states what it is? The alternatives of a clash are written to 257 words.
+#[no_mangle]
+pub extern "C" fn purse_why(
+    store: &[u32],
+    set: &[u32],
+    scratch: &mut [u32],
+    stops: &[u32],
+    output: &mut [u32],
+) -> ReasonAnswer
+    ensures { λ r. ⌜ OpensVerdict reasonAnswerOf
+        (whyCall (now (store .entry)) (now (set .entry)) (now (scratch .entry)) (now (stops .entry)) (now (output .entry)))
+        r (now (scratch .exit)) (now (output .exit)) ⌝ }
+{
+    reason_answer(reasons::why(store, set, scratch, stops, output))
 }

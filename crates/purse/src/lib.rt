@@ -21,6 +21,7 @@ pub use judging::purse_figures;
 pub use judging::purse_has_sll_conflict_terminating_prediction;
 pub use judging::purse_single_viable_alt;
 pub use judging::purse_unique_alt;
+pub use judging::purse_why;
 pub use listing::purse_unique_alt_of;
 pub use making::purse_fresh;
 pub use making::purse_merge;

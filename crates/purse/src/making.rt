@@ -1,6 +1,8 @@
 // The doors to the calls that write a store.
 use answers::Answer;
+use answers::CountedAnswer;
 use answers::fresh_number;
+use answers::merged_answer;
 use answers::number_answer;
 use words::ContextId;
 use words::ReturnState;
@@ -10,7 +12,7 @@ ghost use Rattle.store.specs.Calls.{freshCall};
 ghost use Rattle.contexts.specs.MergeCall.{mergeCall};
 ghost use Rattle.interning.specs.SingletonCall.{singletonCall};
 ghost use Rattle.answers.specs.Answers.{answerOf, numberOf};
-ghost use Rattle.purse.specs.Doors.{Opens, byFullContext};
+ghost use Rattle.purse.specs.Doors.{Opens, OpensCounted, byFullContext};
 
 // Makes the lent words a fresh store.
 #[no_mangle]
@@ -33,7 +35,8 @@ pub extern "C" fn purse_singleton(
     number_answer(interning::singleton(store, scratch, ContextId(parent), ReturnState(state)))
 }
 
-// The context of the merge of `left` and `right`: by mode 0 full-context, by any other number by wildcard.
+// The context of the merge of `left` and `right`: by mode 0 full-context, by any other number by wildcard;
+// and how many merges were counted.
 #[no_mangle]
 pub extern "C" fn purse_merge(
     store: &mut [u32],
@@ -41,8 +44,8 @@ pub extern "C" fn purse_merge(
     left: u32,
     right: u32,
     mode: u32,
-) -> Answer
-    ensures { λ r. ⌜ Opens answerOf (mergeCall (now (store .entry)) (now (scratch .entry)) left right (not (byFullContext mode))) r (now (store .exit)) (now (scratch .exit)) ⌝ }
+) -> CountedAnswer
+    ensures { λ r. ⌜ OpensCounted (mergeCall (now (store .entry)) (now (scratch .entry)) left right (not (byFullContext mode))) r (now (store .exit)) (now (scratch .exit)) ⌝ }
 {
-    number_answer(contexts::merge(store, scratch, ContextId(left), ContextId(right), mode != 0))
+    merged_answer(contexts::merge(store, scratch, ContextId(left), ContextId(right), mode != 0))
 }

@@ -10,7 +10,7 @@ use Rattle.stacks.specs.Rules.{Stacks}
 use Rattle.arena.specs.Store.{Store}
 use Rattle.groups.specs.Lists.{which}
 use Rattle.readers.specs.Calls.{Call, Lent, Sized, Got, refused, Reader}
-use Rattle.readers.specs.Runs.{see, By, put, freshStore, starting, only, Roomy}
+use Rattle.readers.specs.Runs.{see, By, put, freshStore, starting, only, Roomy, Served}
 use Rattle.readers.specs.Programs.{Program, playFrom, play, turnsOf}
 use Rattle.readers.specs.Twins.{Own, Both, after}
 use Rattle.readers.specs.Turns.{roomy, moved, put-same, put-other, Inside, stays-inside, others-turn, own-turn}
@@ -40,7 +40,7 @@ alone-from P i (k ∷ turns) s t Ps Qs seen seen′ inside h q a b =
     (λ e.
     let own : eqb k i ≡ true = eq-eqb k i e in
     let same : seen′ k ≡ seen k = ap seen′ e ∙ sym q ∙ ap seen (sym e) in
-    let a′ : (got ≡ refused 6 → ⊥) × Roomy (only i (pureFrom P (D .store) (put Ps k (moved (Ps k) D)) (put seen k (seen k ++ (got ∷ []))) turns)) = rw (own, which) at a in
+    let a′ : Served got × Roomy (only i (pureFrom P (D .store) (put Ps k (moved (Ps k) D)) (put seen k (seen k ++ (got ∷ []))) turns)) = rw (own, which) at a in
     let b′ : Roomy (pureFrom P t Qs seen′ (k ∷ turnsOf i turns)) = rw (own, which) at b in
     let b″ = rw same at b′ in
     let turn = own-turn s Ps inside k x t Qs (roomy D (a′ .0)) (roomy (after t (Qs k) x) (b″ .0)) i e h in

@@ -5,16 +5,17 @@ use mathlib.Core.List.{List, [], _∷_}
 use Prim.Native.Nat.{ℕ}
 use Rattle.cases.specs.Numbers.{never}
 use Rattle.stacks.specs.Merge.{isMark, wild, mergeE, mergeT}
-use Rattle.arena.specs.Store.{treeOf, tree, same, find}
+use Rattle.arena.specs.Store.{treeOf, tree, same, find, nodeAt}
 use Rattle.arena.specs.Kinds.{size}
 use Rattle.arena.specs.Room.{room, pool}
 use Rattle.arena.specs.Place.{listed, intern, placeE, place, mergeS}
 use Rattle.encoding.specs.Decide.{fits}
 use Rattle.store.specs.Checks.{unless}
 use Rattle.interning.specs.SingletonCall.{singleS}
+use Rattle.work.specs.Counted.{tooMuch, counting, counted, deep, step, recall, begins, made, walk, before, andThen, interned, completed, keep}
 use Rattle.groups.specs.Lists.{which}
 use Rattle.readers.specs.Calls.{Call, singleton, merge, Lent, Sized, context}
-use Rattle.readers.specs.Runs.{see, heard, By, run, only, Roomy}
+use Rattle.readers.specs.Runs.{see, heard, By, run, only, Served, Roomy}
 use Rattle.readers.specs.Pure.{stateAfter}
 use Rattle.readers.specs.Turns.{pureFrom}
 use Rattle.readers.specs.Twins.{after}
@@ -27,13 +28,17 @@ by i x = record { reader = i; what = x }
 abbrev calls : List (By Call)
 calls = by 0 (singleton 0 7) ∷ by 1 (singleton 0 8) ∷ by 1 (merge 1 0 false) ∷ []
 
+-- a context is no refusal
+served : {C : Type 0} (c : C) → Served (context c)
+served c = (λ e. never (cc), λ e. never (cc))
+
 shared-room : Roomy (pureFrom first (λ j. beginner) calls)
-unfolding pureFrom stateAfter unless see heard singleS place placeE intern listed find same tree treeOf fits pool room size mergeS mergeT wild mergeE isMark
-shared-room = (λ e. never (cc), (λ e. never (cc), (λ e. never (cc), tt)))
+unfolding pureFrom stateAfter unless see heard singleS place placeE intern listed find same tree treeOf fits pool room size mergeS mergeT wild mergeE isMark nodeAt tooMuch counting counted deep step recall begins made walk before andThen interned completed keep
+shared-room = (served _, (served _, (served _, tt)))
 
 alone-room : Roomy (pureFrom first (λ j. beginner) (only 1 calls))
-unfolding pureFrom which stateAfter unless see heard singleS place placeE intern listed find same tree treeOf fits pool room size mergeS mergeT wild mergeE isMark
-alone-room = (λ e. never (cc), (λ e. never (cc), tt))
+unfolding pureFrom which stateAfter unless see heard singleS place placeE intern listed find same tree treeOf fits pool room size mergeS mergeT wild mergeE isMark nodeAt tooMuch counting counted deep step recall begins made walk before andThen interned completed keep
+alone-room = (served _, (served _, tt))
 
 -- The second reader's first context is 2 beside the first reader, and 1 alone.
 numbers-differ : (after (after first beginner (singleton 0 7) .store) beginner (singleton 0 8) .got ≡ context 2) × (after first beginner (singleton 0 8) .got ≡ context 1)

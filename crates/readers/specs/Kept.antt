@@ -142,7 +142,7 @@ module _ (s : Store) (S : Set) (good : Good s S) where
       → After s (to g (addTo s S x .store) (addTo s S x .set))
   joined-after x h c e ok g =
       let m = merge-makes s (good .store) (not (S .full)) c (x .context) (held-known x (S .configs) (length s) c (good-known (length s) S (good .set)) e) h in
-      let room = not-false _ (rw (add-joined s S x c e) at (ok .1 .1 .1 .0)) in
+      let room = not-false _ (rw (add-joined s S x c e) at (ok .1 .1 .1 .1 .0)) in
       rw (add-joined s S x c e)
       (record {
         good = record {
@@ -176,7 +176,7 @@ module _ (s : Store) (S : Set) (good : Good s S) where
     step-after (merge n k m) =
         let a = getD cs n 0 in
         let b = getD cs k 0 in
-        checked _ _ (λ ok. made _ (mergeS m s a b) _ (merge-makes s (good .store) m a b (known n) (known k)) (ok .0))
+        checked _ _ (λ ok. made _ (mergeS m s a b) _ (merge-makes s (good .store) m a b (known n) (known k)) (ok .1 .0))
     step-after (query q n) = stays _
     step-after (freshSet f) = record { good = record { store = good .store; set = refl }; grew = grew-refl s }
     step-after (add q a n m r p) = addition-after (config q a (getD cs n 0) m r p) (known n)

@@ -24,7 +24,8 @@ use Rattle.encoding.specs.Decide.Laws.{words-sound}
 use Rattle.store.specs.Checks.{Check, given, unless}
 use Rattle.store.specs.Checks.Laws.{Clear, unless-first, unless-next, clear-goes}
 use Rattle.store.specs.Calls as Stores
-use Rattle.store.specs.Calls.{Reply, Left, kept, wrongLength, unsoundStore, unknownContext, noRoom, made}
+use Rattle.store.specs.Calls.{Reply, Left, kept, wrongLength, unsoundStore, unknownContext, tooMuchWork, noRoom, made, madeAfter}
+use Rattle.work.specs.Counted.{counting, countOf}
 use Rattle.interning.specs.SingletonCall.{singleS, singletonChecks, singletonCall}
 use Rattle.contexts.specs.MergeCall.{mergeChecks, mergeCall}
 use Rattle.queries.specs.Queries.{answerTo}
@@ -38,7 +39,7 @@ use Rattle.sets.specs.Sound as SoundSets
 use Rattle.sets.specs.Sound.{good-few, set-of-words}
 use Rattle.sets.specs.Refusals.{SoundLent, lent-clear}
 use Rattle.sets.specs.Calls as Sets
-use Rattle.sets.specs.Calls.{SetReply, SetLeft, setLeft, lentLengths, lentChecks, addChecks, freshSetCall, addCall, closeCall}
+use Rattle.sets.specs.Calls.{SetReply, SetLeft, setLeft, setLeftAfter, addWork, lentLengths, lentChecks, addChecks, freshSetCall, addCall, closeCall}
 use Rattle.groups.specs.Groups as Grouped
 use Rattle.groups.specs.Groups.{Group}
 use Rattle.groups.specs.Answers as Answers
@@ -74,13 +75,14 @@ singletonTo s S r c =
     unless (given 5 (leb stop r && not (eqb r emptyMark)) ∷ noRoom (x .1) ∷ []) (halt s S) (to (context (x .0)) (x .1) S)
 
 abbrev pub mergeTo : Store → Set → Bool → ℕ → ℕ → State
-mergeTo s S m a b = let x = mergeS m s a b in unless (noRoom (x .1) ∷ []) (halt s S) (to (context (x .0)) (x .1) S)
+mergeTo s S m a b =
+    let x = mergeS m s a b in unless (tooMuchWork (counting m s a b) ∷ noRoom (x .1) ∷ []) (halt s S) (to (context (x .0)) (x .1) S)
 
 abbrev pub addChecksOf : Store → Set → Config → Addition → List Check
 addChecksOf s S x A =
     given 7 (S .closed) ∷ given 4 (not (ltb (x .context) (length s)))
     ∷ given 8 (not (any (sameKey x) (S .configs)) && leb mostConfigs (length (S .configs)))
-    ∷ given 6 (not (fits (A .store))) ∷ []
+    ∷ tooMuchWork (addWork s S x) ∷ noRoom (A .store) ∷ []
 
 abbrev pub additionTo : Store → Set → Config → State
 additionTo s S x =
@@ -188,8 +190,8 @@ module _ (s : Store) (g : GoodStore s) (S : Set) (good : goodSet (length s) S �
   merge-is m a b h k =
       let n = words-count s (g .fits) in
       rw (store-of-words s g)
-      (past s S (Stores.refusal w z) (made (mergeS m s a b)) (onStore (reader [])) (to (context (mergeS m s a b .0)) (mergeS m s a b .1) S) store-refusals refl
-      (wrongLength w z ∷ unsoundStore w ∷ given 4 (not (ltb a (contexts w) && ltb b (contexts w))) ∷ []) (noRoom (mergeS m s a b .1) ∷ [])
+      (past s S (Stores.refusal w z) (madeAfter (countOf (counting m s a b)) (mergeS m s a b)) (onStore (reader [])) (to (context (mergeS m s a b .0)) (mergeS m s a b .1) S) store-refusals refl
+      (wrongLength w z ∷ unsoundStore w ∷ given 4 (not (ltb a (contexts w) && ltb b (contexts w))) ∷ []) (tooMuchWork (counting m s a b) ∷ noRoom (mergeS m s a b .1) ∷ [])
       (store-clear .0, (store-clear .1 .0, (ap not (both-true _ _ (lt-ltb a (contexts w) (rw n h)) (lt-ltb b (contexts w) (rw n k))), tt))))
 
   -- ---- the calls on a set
@@ -217,8 +219,8 @@ module _ (s : Store) (g : GoodStore s) (S : Set) (good : goodSet (length s) S �
       (lentChecks (lentLengths w v z) w v
       (given 7 (T .closed) ∷ given 4 (not (ltb (x .context) n))
       ∷ given 8 (not (any (sameKey x) (T .configs)) && leb mostConfigs (length (T .configs)))
-      ∷ given 6 (not (fits (A .store))) ∷ []))
-      (Sets.refusal w v z) (setLeft (Sets.added (A .answer)) (wordsOf (A .store)) (setWords (A .set)) Stores.zeros)
+      ∷ tooMuchWork (addWork u T x) ∷ noRoom (A .store) ∷ []))
+      (Sets.refusal w v z) (setLeftAfter (countOf (addWork u T x)) (Sets.added (A .answer)) (wordsOf (A .store)) (setWords (A .set)) Stores.zeros)
 
   add-read : (x : Config) → addCall w v z x ≡ addWith x (length s) s S
   unfolding addCall addChecks
@@ -231,7 +233,7 @@ module _ (s : Store) (g : GoodStore s) (S : Set) (good : goodSet (length s) S �
   add-is x =
       let A = addTo s S x in
       ap onSet (add-read x)
-      ∙ past s S (Sets.refusal w v z) (setLeft (Sets.added (A .answer)) (wordsOf (A .store)) (setWords (A .set)) Stores.zeros) onSet
+      ∙ past s S (Sets.refusal w v z) (setLeftAfter (countOf (addWork s S x)) (Sets.added (A .answer)) (wordsOf (A .store)) (setWords (A .set)) Stores.zeros) onSet
       (to (plain (ofSet (Sets.added (A .answer)))) (A .store) (A .set)) set-refusals refl
       (lentChecks (lentLengths w v z) w v []) (addChecksOf s S x A) lent-passed
 

@@ -70,6 +70,9 @@ run lent xs = runFrom lent 0 freshStore (λ i. starting) xs
 abbrev pub only : {A : Type 0} → ℕ → List (By A) → List (By A)
 only i xs = which (λ x. eqb (x .reader) i) xs
 
--- no call lacks room
+-- "no call is refused for room or work"
+abbrev pub Served : {C : Type 0} → Got C → Type 0
+Served {C} g = (g ≡ refused 6 → ⊥) × (g ≡ refused 12 → ⊥)
+
 abbrev pub Roomy : List (By (Got Stacks)) → Type 0
-Roomy xs = All (λ x. x .what ≡ refused 6 → ⊥) xs
+Roomy xs = All (λ x. Served (x .what)) xs

@@ -18,11 +18,11 @@ use Rattle.sets.specs.Sets.{Set}
 use Rattle.sets.specs.Kept.{good-more}
 use Rattle.groups.specs.Lists.{which}
 use Rattle.readers.specs.Calls.{Call, Part, part, Got, refused}
-use Rattle.readers.specs.Runs.{see, heard, By, put, only, Roomy}
+use Rattle.readers.specs.Runs.{see, heard, By, put, only, Roomy, Served}
 use Rattle.readers.specs.Pure.{State}
 use Rattle.readers.specs.Kept.{Good, After, Known, step-after}
 use Rattle.readers.specs.Alike.{each-append, each-wider, each-same, Parts, parts, Gots, refusals, contexts, grouped, plains, sets-wider, named-alike, heard-alike}
-use Rattle.readers.specs.Twins.{Like, like-grew, Alike, Room, Own, Both, after, step-kept}
+use Rattle.readers.specs.Twins.{Like, like-grew, Alike, Own, Both, after, step-kept}
 
 -- ---- what is alike is seen as the same
 
@@ -37,9 +37,9 @@ module _ (s t : Store) where
   see-alike (grouped l) = ap Got.groups (each-same (Parts (Like s t)) _ _ see-part l)
   see-alike (plains p) = refl
 
-pub roomy : (D : State) → (see (D .store) (D .got) ≡ refused 6 → ⊥) → Room D
+pub roomy : (D : State) → Served (see (D .store) (D .got)) → Served (D .got)
 unfolding see
-roomy D h e = h (ap (see (D .store)) e)
+roomy D h = (λ e. h .0 (ap (see (D .store)) e), λ e. h .1 (ap (see (D .store)) e))
 
 -- ---- the relation is kept
 
@@ -110,7 +110,7 @@ module _ (s : Store) (Ps : ℕ → Own) (inside : Inside s Ps) (k : ℕ) (x : Ca
   made-after = after-left s s (Ps k) (Ps k) (inside k) x
 
   itself : Alike made made
-  itself = step-kept s s (Ps k) (Ps k) (inside k) x (λ h. h) (λ h. h)
+  itself = step-kept s s (Ps k) (Ps k) (inside k) x (λ h. h, λ h. h) (λ h. h, λ h. h)
 
   pub stays-inside : Inside (made .store) next
   stays-inside j =
@@ -126,13 +126,13 @@ module _ (s : Store) (Ps : ℕ → Own) (inside : Inside s Ps) (k : ℕ) (x : Ca
       (both-grew s t (made .store) t (Ps i) Q (made-after .grew) (made-after .good .store) (grew-refl t) (h .right .store) h)
 
   -- and where i is k, alone too: i sees the same in both stores, and the relation is kept
-  pub own-turn : (t : Store) (Qs : ℕ → Own) → Room made → Room (after t (Qs k) x) → (i : ℕ) → k ≡ i → Both s t (Ps i) (Qs i)
+  pub own-turn : (t : Store) (Qs : ℕ → Own) → Served (made .got) → Served (after t (Qs k) x .got) → (i : ℕ) → k ≡ i → Both s t (Ps i) (Qs i)
       → (see (made .store) (made .got) ≡ see (after t (Qs k) x .store) (after t (Qs k) x .got))
       × Both (made .store) (after t (Qs k) x .store) (next i) (put Qs k (moved (Qs k) (after t (Qs k) x)) i)
   own-turn t Qs room room′ i e h =
       let lone = after t (Qs k) x in
       let here : Both s t (Ps k) (Qs k) = subst (λ (j : ℕ). Both s t (Ps j) (Qs j)) (sym e) h in
-      let kept : Alike made lone = step-kept s t (Ps k) (Qs k) here x (λ q. room′) (λ q. room) in (
+      let kept : Alike made lone = step-kept s t (Ps k) (Qs k) here x (λ q. room′ .0, λ q. room .0) (λ q. room′ .1, λ q. room .1) in (
         see-alike (made .store) (lone .store) (kept .gots),
         rw (put-same Ps k (moved (Ps k) made) i (sym e), put-same Qs k (moved (Qs k) lone) i (sym e))
             (both-after s t (Ps k) (Qs k) made lone here made-after (after-right s t (Ps k) (Qs k) here x) kept),
@@ -159,7 +159,7 @@ alone-from i (x ∷ xs) s t Ps Qs inside h a b =
     two k i
     (λ e.
     let own : eqb k i ≡ true = eq-eqb k i e in
-    let a′ : (see (D .store) (D .got) ≡ refused 6 → ⊥) × Roomy (only i (pureFrom (D .store) Ps′ xs)) = rw (own, which) at a in
+    let a′ : Served (see (D .store) (D .got)) × Roomy (only i (pureFrom (D .store) Ps′ xs)) = rw (own, which) at a in
     let b′ : Roomy (pureFrom t Qs (x ∷ only i xs)) = rw (own, which) at b in
     let turn = own-turn s Ps inside k (x .what) t Qs (roomy D (a′ .0)) (roomy (after t (Qs k) (x .what)) (b′ .0)) i e h in
     rw (own, which, turn .0, alone-from i xs _ _ _ _ kept (turn .1) (a′ .1) (b′ .1)))

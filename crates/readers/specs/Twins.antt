@@ -31,7 +31,9 @@ use Rattle.sets.specs.Lists.{any}
 use Rattle.sets.specs.Layout.{mostConfigs}
 use Rattle.sets.specs.Sets.{Set, emptySet, withConfigs, closedSet, sameKey, held, joinedAll, addTo}
 use Rattle.sets.specs.Sound.{good-known}
+use Rattle.store.specs.Calls.{tooMuchWork}
 use Rattle.sets.specs.Calls as SetCalls
+use Rattle.sets.specs.Calls.{addWork}
 use Rattle.configs.specs.Adds.{add-joined, add-new}
 use Rattle.groups.specs.Groups as Grouped
 use Rattle.groups.specs.Answers as Answers
@@ -121,12 +123,17 @@ pub record Alike (D E : State) : Type 0 where
   pub gots : Gots (Like (D .store) (E .store)) (D .got) (E .got)
   pub sets : Sets (Like (D .store) (E .store)) (D .set) (E .set)
 
-abbrev pub Room : State → Type 0
-Room D = D .got ≡ refused 6 → ⊥
+-- not refused n
+abbrev pub Room : ℕ → State → Type 0
+Room n D = D .got ≡ refused n → ⊥
 
--- if both calls lack room or neither does
+-- both calls are refused n or neither is
+abbrev pub Even : ℕ → State → State → Type 0
+Even n D E = (Room n D → Room n E) × (Room n E → Room n D)
+
+-- if both calls lack room or neither does, and the same of work
 abbrev pub Keeps : State → State → Type 0
-Keeps D E = (Room D → Room E) → (Room E → Room D) → Alike D E
+Keeps D E = Even 6 D E → Even 12 D E → Alike D E
 
 module _ (s t : Store) {S T : Set} (w : Good s S) (v : Good t T) (l : Sets (Like s t) S T) where
   -- where the store stays
@@ -146,12 +153,27 @@ module _ (s t : Store) {S T : Set} (w : Good s S) (v : Good t T) (l : Sets (Like
   check-kept n false false cs ds D E e h = h refl refl
 
   -- that of room, last
-  room-kept : (b b′ : Bool) (D E : State) → Room D → Room E → Alike D E → Keeps (unless (given 6 b ∷ []) (halt s S) D) (unless (given 6 b′ ∷ []) (halt t T) E)
+  room-kept : (b b′ : Bool) (D E : State) → Room 6 D → Room 6 E → Alike D E → Keeps (unless (given 6 b ∷ []) (halt s S) D) (unless (given 6 b′ ∷ []) (halt t T) E)
   unfolding unless
   room-kept true true D E x y h f g = stay (refusals 6) f g
-  room-kept true false D E x y h f g = absurd (g y refl)
-  room-kept false true D E x y h f g = absurd (f x refl)
+  room-kept true false D E x y h f g = absurd (f .1 y refl)
+  room-kept false true D E x y h f g = absurd (f .0 x refl)
   room-kept false false D E x y h f g = h
+
+  -- a lack of room is none of work
+  no-room : (u : Store) (U : Set) (b : Bool) (D : State) → Room 12 D → Room 12 (unless (given 6 b ∷ []) (halt u U) D)
+  unfolding unless
+  no-room u U true D x e = never (let q : _≡_ {A = Got ℕ} (refused 6) (refused 12) = e in let k : _≡_ {A = ℕ} 6 12 = cc in absurd (omega arith))
+  no-room u U false D x e = x e
+
+  -- those of work and room
+  worked-kept : (a a′ b b′ : Bool) (D E : State) → Room 6 D → Room 6 E → Room 12 D → Room 12 E → Alike D E
+      → Keeps (unless (given 12 a ∷ given 6 b ∷ []) (halt s S) D) (unless (given 12 a′ ∷ given 6 b′ ∷ []) (halt t T) E)
+  unfolding unless
+  worked-kept true true b b′ D E x y i j h f g = stay (refusals 12) f g
+  worked-kept true false b b′ D E x y i j h f g = absurd (g .1 (no-room t T b′ E j) refl)
+  worked-kept false true b b′ D E x y i j h f g = absurd (g .0 (no-room s S b D i) refl)
+  worked-kept false false b b′ D E x y i j h f g = room-kept b b′ D E x y h f g
 
   -- ---- one set of stacks, made in both stores
 
@@ -166,6 +188,14 @@ module _ (s t : Store) {S T : Set} (w : Good s S) (v : Good t T) (l : Sets (Like
     made-kept =
         room-kept _ _ _ _ (λ q. never (cc)) (λ q. never (cc)) (record { gots = contexts made-alike; sets = sets-wider (Like s t) _ still l })
 
+    -- with work, which the two stores need not share
+    worked-made : (a a′ : Bool)
+        → Keeps (unless (given 12 a ∷ given 6 (not (fits (x .1))) ∷ []) (halt s S) (to (context (x .0)) (x .1) S))
+        (unless (given 12 a′ ∷ given 6 (not (fits (y .1))) ∷ []) (halt t T) (to (context (y .0)) (y .1) T))
+    worked-made a a′ =
+        worked-kept a a′ _ _ _ _ (λ q. never (cc)) (λ q. never (cc)) (λ q. never (cc)) (λ q. never (cc))
+        (record { gots = contexts made-alike; sets = sets-wider (Like s t) _ still l })
+
   -- ---- the calls
 
   singleton-kept : (r c d : ℕ) → Like s t c d → Keeps (singletonTo s S r c) (singletonTo t T r d)
@@ -179,8 +209,8 @@ module _ (s t : Store) {S T : Set} (w : Good s S) (v : Good t T) (l : Sets (Like
 
   merge-kept : (m : Bool) (a b a′ b′ : ℕ) → Like s t a a′ → Like s t b b′ → Keeps (mergeTo s S m a b) (mergeTo t T m a′ b′)
   merge-kept m a b a′ b′ h k =
-      made-kept (mergeS m s a b) (mergeS m t a′ b′) _ _ (merge-same m a b a′ b′ h k)
-      (merge-makes s (w .store) m a b (h .left) (k .left)) (merge-makes t (v .store) m a′ b′ (h .right) (k .right))
+      worked-made (mergeS m s a b) (mergeS m t a′ b′) _ _ (merge-same m a b a′ b′ h k)
+      (merge-makes s (w .store) m a b (h .left) (k .left)) (merge-makes t (v .store) m a′ b′ (h .right) (k .right)) _ _
 
   nodes : (c d : ℕ) → Like s t c d → Nodes (Like s t) (nodeAt s c) (nodeAt t d)
   nodes c d h =
@@ -213,8 +243,8 @@ module _ (s t : Store) (S : Set) {ys : List Config} (w : Good s S) (v : Good t (
 
   added-kept : (x : Config) (e : ℕ) → Like s t (x .context) e → {o p : Found} → Founds (Like s t) o p → held x (S .configs) ≡ o → held (moved x e) ys ≡ p
       → (let A = addTo s S x in let B = addTo t T (moved x e) in
-      Keeps (unless (given 6 (not (fits (A .store))) ∷ []) (halt s S) (to (plain (ofSet (SetCalls.added (A .answer)))) (A .store) (A .set)))
-      (unless (given 6 (not (fits (B .store))) ∷ []) (halt t T) (to (plain (ofSet (SetCalls.added (B .answer)))) (B .store) (B .set))))
+      Keeps (unless (tooMuchWork (addWork s S x) ∷ given 6 (not (fits (A .store))) ∷ []) (halt s S) (to (plain (ofSet (SetCalls.added (A .answer)))) (A .store) (A .set)))
+      (unless (tooMuchWork (addWork t T (moved x e)) ∷ given 6 (not (fits (B .store))) ∷ []) (halt t T) (to (plain (ofSet (SetCalls.added (B .answer)))) (B .store) (B .set))))
   added-kept x e h (both {c} {d} r) f g =
       let m = not (S .full) in
       let here = merge-makes s (w .store) m c (x .context) (r .left) (h .left) in
@@ -223,7 +253,7 @@ module _ (s t : Store) (S : Set) {ys : List Config} (w : Good s S) (v : Good t (
       let X = mergeS m s c (x .context) in
       let Y = mergeS m t d e in
       rw (add-joined s S x c f, add-joined t T (moved x e) d g)
-      (room-kept s t w v (set S l) (not (fits (X .1))) (not (fits (Y .1))) _ _ (λ q. never (cc)) (λ q. never (cc))
+      (worked-kept s t w v (set S l) _ _ (not (fits (X .1))) (not (fits (Y .1))) _ _ (λ q. never (cc)) (λ q. never (cc)) (λ q. never (cc)) (λ q. never (cc))
       (record {
         gots = plains (ofSet (SetCalls.added 0));
         sets = set (withConfigs S (joinedAll x (X .0) (S .configs)))
@@ -231,7 +261,7 @@ module _ (s t : Store) (S : Set) {ys : List Config} (w : Good s S) (v : Good t (
       }))
   added-kept x e h neither f g =
       rw (add-new s S x f, add-new t T (moved x e) g)
-      (room-kept s t w v (set S l) (not (fits s)) (not (fits t)) _ _ (λ q. never (cc)) (λ q. never (cc))
+      (worked-kept s t w v (set S l) _ _ (not (fits s)) (not (fits t)) _ _ (λ q. never (cc)) (λ q. never (cc)) (λ q. never (cc)) (λ q. never (cc))
       (record {
         gots = plains (ofSet (SetCalls.added 1));
         sets = set (withConfigs S (S .configs ++ (x ∷ []))) (each-append (Twin (Like s t)) l (more (twin x e h) Renamed.none));

@@ -6,7 +6,7 @@ use mathlib.Core.List.{List}
 use Prim.Native.Nat.{ℕ, _+_, _-_, _≤_}
 use lib.ListN.{length, take, drop}
 use Rattle.format.specs.Bytes.{u32At}
-use Rattle.script.specs.Steps.{scriptReplies}
+use Rattle.steps.specs.Steps.{scriptReplies}
 use Rattle.replay.specs.declared.sample.Part.{Part}
 use Rattle.replay.specs.declared.sample.Part.the-variants.{Found, Cut as noPart}
 use Rattle.replay.specs.declared.sample.Tally.{Tally}

@@ -15,10 +15,12 @@ use Rattle.sets.specs.Calls.{refused as setRefused, done as setDone}
 use Rattle.verdicts.specs.Calls.{VerdictReply, says, alternative, written, summary, because, VerdictLeft, mostStops}
 use Rattle.verdicts.specs.Calls.{refused as verdictRefused}
 use Rattle.figures.specs.Calls.{figuresCall}
+use Rattle.outputs.specs.Outputs.{altsLength}
+use Rattle.reasons.specs.Calls.{whyCall}
 use Rattle.interning.specs.SingletonCall.{singletonCall}
 use Rattle.contexts.specs.MergeCall.{mergeCall}
-use Rattle.format.specs.Format.{Record, singleton, merge, newSet, add, stops, verdict, show, close}
-use Rattle.lines.specs.Lines.{contextLine, newSetLine, addedLine, stopsLine, figuresLine, closedLine, refusalLine, entriesLine}
+use Rattle.format.specs.Format.{Record, singleton, merge, newSet, add, stops, verdict, show, close, why}
+use Rattle.lines.specs.Lines.{contextLine, newSetLine, addedLine, stopsLine, figuresLine, reasonLine, closedLine, refusalLine, entriesLine}
 
 -- the words that are lent to a script
 pub record Lent : Type 0 where
@@ -87,7 +89,7 @@ heldStops t = take (getD t 0 0) (drop 1 t)
 unfoldable pub stopsCall : List ℕ → List ℕ → List ℕ × List ℕ
 stopsCall t xs = unless (given 10 (ltb mostStops (length xs)) ∷ []) (λ n. (refusalLine n, t)) (stopsLine (length xs), stopWords xs)
 
--- ---- the verdict
+-- ---- the verdict, and why it is what it is
 
 unfoldable pub verdictLineOf : VerdictReply → List ℕ
 verdictLineOf (verdictRefused n) = refusalLine n
@@ -95,7 +97,7 @@ verdictLineOf (summary f) = figuresLine (f .subsets) (f .unique) (f .viable) (f 
 verdictLineOf (says b) = []
 verdictLineOf (alternative a) = []
 verdictLineOf written = []
-verdictLineOf (because r) = []
+verdictLineOf (because r) = reasonLine r
 
 abbrev pub onVerdict : Lent → VerdictLeft → Printed
 onVerdict l x = record { reply = verdictLineOf (x .reply); words = lent (l .store) (l .set) (l .stops) (x .scratch) }
@@ -109,5 +111,6 @@ callOf l (newSet m) = onSet l newSetLine (newSetCall (l .store) (l .set) (l .scr
 callOf l (add x) = onSet l [] (addCall (l .store) (l .set) (l .scratch) x)
 callOf l (stops xs) = let x = stopsCall (l .stops) xs in record { reply = x .0; words = lent (l .store) (l .set) (x .1) (wiped (l .scratch)) }
 callOf l verdict = onVerdict l (figuresCall (l .store) (l .set) (l .scratch) (heldStops (l .stops)))
+callOf l why = onVerdict l (whyCall (l .store) (l .set) (l .scratch) (heldStops (l .stops)) (blank altsLength))
 callOf l (show c) = onStore l (entriesLine (nodeAt (storeOf (l .store)) c)) (asked (l .store) (l .scratch) c done)
 callOf l close = onSet l closedLine (closeCall (l .store) (l .set) (l .scratch))

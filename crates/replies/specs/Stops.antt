@@ -8,7 +8,7 @@ use borrow.Author.Tests.{lt-ltb, le-ltb}
 use Rattle.layout.specs.Layout.{blank}
 use Rattle.store.specs.Checks.{unless}
 use Rattle.verdicts.specs.Calls.{mostStops}
-use Rattle.format.specs.Format.{Record, singleton, merge, newSet, add, stops, verdict, show, close}
+use Rattle.format.specs.Format.{Record, singleton, merge, newSet, add, stops, verdict, show, close, why}
 use Rattle.lines.specs.Lines.{stopsLine, refusalLine}
 use Rattle.replies.specs.Replies.{Lent, stopWords, heldStops, stopsCall, callOf}
 
@@ -37,6 +37,7 @@ module _ (l : Lent) where
   GivesNone verdict = Unit {0}
   GivesNone (show c) = Unit {0}
   GivesNone close = Unit {0}
+  GivesNone why = Unit {0}
 
   pub stops-kept : (r : Record) → GivesNone r → callOf l r .words .stops ≡ l .stops
   unfolding callOf
@@ -48,3 +49,4 @@ module _ (l : Lent) where
   stops-kept verdict k = refl
   stops-kept (show c) k = refl
   stops-kept close k = refl
+  stops-kept why k = refl

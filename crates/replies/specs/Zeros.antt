@@ -7,7 +7,7 @@ use lib.Dec.{eqb}
 use lib.ListN.{length}
 use borrow.Author.Tests.{eq-eqb}
 use Rattle.cases.specs.Bools.{bool?, and-left, and-right}
-use Rattle.layout.specs.Layout.{storeWords, scratchWords}
+use Rattle.layout.specs.Layout.{storeWords, scratchWords, blank}
 use Rattle.store.specs.Checks.{Check, given, unless}
 use Rattle.store.specs.Checks.Laws.{absent, unless-first, unless-next}
 use Rattle.store.specs.Calls.{zeros, asked}
@@ -16,9 +16,11 @@ use Rattle.sets.specs.Layout.{setWordsLength}
 use Rattle.sets.specs.Calls.{SetLeft, refusal, lentLengths, lentChecks, addChecks, freshSetCall, addCall, closeCall}
 use Rattle.verdicts.specs.Calls.{VerdictLeft, readRefusal, readCall}
 use Rattle.figures.specs.Calls.{figuresCall}
+use Rattle.outputs.specs.Outputs.{altsLength}
+use Rattle.reasons.specs.Calls.{whyCall}
 use Rattle.interning.specs.SingletonCall.{singletonChecks, singletonCall}
 use Rattle.contexts.specs.MergeCall.{mergeChecks, mergeCall}
-use Rattle.format.specs.Format.{Record, singleton, merge, newSet, add, stops, verdict, show, close}
+use Rattle.format.specs.Format.{Record, singleton, merge, newSet, add, stops, verdict, show, close, why}
 use Rattle.replies.specs.Replies.{Lent, wiped, newSetCall, callOf}
 
 pub wiped-zero : (z : List ℕ) → length z ≡ scratchWords → wiped z ≡ zeros
@@ -60,23 +62,26 @@ module _ (l : Lent) (k : Sized l) where
   unfolding refusal
   set-refused n e = rw (e, refusal)
 
-  read-refused : (n : ℕ) → eqb n 2 ≡ false → readRefusal (l .scratch) [] n .scratch ≡ zeros
+  read-refused : (o : List ℕ) (n : ℕ) → eqb n 2 ≡ false → readRefusal (l .scratch) o n .scratch ≡ zeros
   unfolding readRefusal
-  read-refused n e = rw (e, readRefusal)
+  read-refused o n e = rw (e, readRefusal)
 
   new-zero : (full : Bool) → newSetCall (l .store) (l .set) (l .scratch) full .scratch ≡ zeros
   unfolding newSetCall freshSetCall unless
   new-zero full = rw (eq-eqb (length (l .set)) setWordsLength (k .set), unless) (wiped-zero (l .scratch) (k .scratch))
 
   pub call-zero : (r : Record) → callOf l r .words .scratch ≡ zeros
-  unfolding callOf singletonChecks singletonCall mergeChecks mergeCall asked absent lentChecks addChecks addCall closeCall figuresCall readCall
+  unfolding callOf singletonChecks singletonCall mergeChecks mergeCall asked absent lentChecks addChecks addCall closeCall figuresCall whyCall readCall blank
   call-zero (singleton p r) = zero-after (l .store) (l .scratch) _ _ (k .store) (k .scratch) refl refl
   call-zero (merge a b m) = zero-after (l .store) (l .scratch) _ _ (k .store) (k .scratch) refl refl
   call-zero (newSet m) = new-zero (not m)
   call-zero (add x) = passed-two (λ (y : SetLeft). y .scratch) (refusal (l .store) (l .set) (l .scratch)) set-refused _ refl _ lengths _ refl
   call-zero (stops xs) = wiped-zero (l .scratch) (k .scratch)
   call-zero verdict =
-      passed-two (λ (y : VerdictLeft). y .scratch) (readRefusal (l .scratch) []) read-refused _ refl
+      passed-two (λ (y : VerdictLeft). y .scratch) (readRefusal (l .scratch) []) (read-refused []) _ refl
       (lentLengths (l .store) (l .set) (l .scratch) && true) (rw lengths) _ refl
+  call-zero why =
+      passed-two (λ (y : VerdictLeft). y .scratch) (readRefusal (l .scratch) (blank altsLength)) (read-refused (blank altsLength)) _ refl
+      (lentLengths (l .store) (l .set) (l .scratch) && eqb (length (blank altsLength)) altsLength) (rw lengths) _ refl
   call-zero (show c) = zero-after (l .store) (l .scratch) _ _ (k .store) (k .scratch) refl refl
   call-zero close = passed-two (λ (y : SetLeft). y .scratch) (refusal (l .store) (l .set) (l .scratch)) set-refused _ refl _ lengths _ refl

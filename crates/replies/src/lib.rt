@@ -1,2 +1,2 @@
-// The records on contexts: each call, and its reply as a line of bytes. All of it is internal: scripts are run by `script`.
+// The records on contexts: each call, and its reply as a line of bytes. All of it is internal: scripts are run by `steps`.
 pub mod inner;

@@ -8,7 +8,7 @@ use Rattle.store.specs.Calls.{Reply, zeros, asked, Accepts}
 use Rattle.interning.specs.SingletonCall.{singletonCall}
 use Rattle.contexts.specs.MergeCall.{mergeCall}
 use Rattle.sets.specs.Config.{Config}
-use Rattle.sets.specs.Calls.{done, added, setLeft, addCall, closeCall}
+use Rattle.sets.specs.Calls.{done, setLeft, Adds, addCall, closeCall}
 
 -- what a call was: a merge of a and b, by wildcard or full-context, that answered c; a state r over the context p, which answered c; or any other
 pub data Event : Type 0 where
@@ -21,7 +21,7 @@ pub data Step : List ℕ → Event → List ℕ → Type 0 where
   singleton : {w w′ : List ℕ} (z : List ℕ) (p r c : ℕ) → Accepts (singletonCall w z p r) c w′ → Step w (placed p r c) w′
   merge : {w w′ : List ℕ} (z : List ℕ) (m : Bool) (a b c : ℕ) → Accepts (mergeCall w z a b m) c w′ → Step w (merged m a b c) w′
   query : {w w′ : List ℕ} (z : List ℕ) (c : ℕ) (r : Reply) → asked w z c r .store ≡ w′ → Step w other w′
-  add : {w w′ : List ℕ} (v z : List ℕ) (x : Config) (a : ℕ) (v′ : List ℕ) → addCall w v z x ≡ setLeft (added a) w′ v′ zeros → Step w other w′
+  add : {w w′ : List ℕ} (v z : List ℕ) (x : Config) (a : ℕ) (v′ : List ℕ) → Adds (addCall w v z x) a w′ v′ → Step w other w′
   close : {w w′ : List ℕ} (v z v′ : List ℕ) → closeCall w v z ≡ setLeft done w′ v′ zeros → Step w other w′
 
 -- calls one after another, the newest first

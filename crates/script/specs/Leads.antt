@@ -6,8 +6,8 @@ use native.Mathlib.Omega.{arith}
 use lib.ListN.{length}
 use Rattle.lines.specs.Lines.{endLine}
 use Rattle.replies.specs.Replies.{Lent, Printed}
-use Rattle.script.specs.Steps.{fresh, goes, over, stepOf, runFrom, runOf, scriptReplies}
-use Rattle.script.specs.Steps.Laws.{after?, step-forward, run-over, run-next}
+use Rattle.steps.specs.Steps.{fresh, goes, over, stepOf, runFrom, runOf, scriptReplies}
+use Rattle.steps.specs.Steps.Laws.{after?, step-forward, run-over, run-next}
 
 -- from place i on, with the words l, the script s ends with the words m
 pub data Leads (s : List ℕ) : ℕ → Lent → Lent → Type 0 where

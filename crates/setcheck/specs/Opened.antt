@@ -16,7 +16,7 @@ use Rattle.layout.specs.Decode.Laws.{store-length}
 use Rattle.encoding.specs.Decide.{sound}
 use Rattle.index.specs.Grow.{index-frame}
 use Rattle.recordcheck.specs.Check.{Ready}
-use Rattle.store.specs.Calls.{none, Left, zeros, refused as notSet}
+use Rattle.store.specs.Calls.{none, Left, zeros, refused as notSet, leaves}
 use Rattle.store.specs.Nested.{ifLengths, ifSound, checked}
 use Rattle.store.specs.Admit.{Opened, cleared}
 use Rattle.store.specs.declared.inner.admit.Admitted.{Admitted}
@@ -47,11 +47,11 @@ abbrev storeLengths : List ℕ → List ℕ → Bool
 storeLengths w z = eqb (length w) storeWords && eqb (length z) scratchWords
 
 module _ (w z : List ℕ) (go : Left) where
-  checked-short : storeLengths w z ≡ false → checked w z go ≡ record { reply = notSet 2; store = w; scratch = z }
+  checked-short : storeLengths w z ≡ false → checked w z go ≡ leaves (notSet 2) w z
   unfolding checked ifLengths
   checked-short e = rw (e, ifLengths)
 
-  checked-unsound : storeLengths w z ≡ true → sound w ≡ false → checked w z go ≡ record { reply = notSet 1; store = w; scratch = zeros }
+  checked-unsound : storeLengths w z ≡ true → sound w ≡ false → checked w z go ≡ leaves (notSet 1) w zeros
   unfolding checked ifLengths ifSound
   checked-unsound e f = rw (e, ifLengths) (rw (f, ifSound))
 
@@ -62,10 +62,10 @@ module _ (w z : List ℕ) (go : Left) where
 module _ (w z u : List ℕ) where
   -- an outcome that is no refusal
   other : Left
-  other = record { reply = none; store = w; scratch = zeros }
+  other = leaves none w zeros
 
   abbrev Outcome : ℕ → List ℕ → Left
-  Outcome n x = record { reply = notSet n; store = w; scratch = x }
+  Outcome n x = leaves (notSet n) w x
 
   outcomes : (n m : ℕ) (x y : List ℕ) → Outcome n x ≡ Outcome m y → (n ≡ m) × (x ≡ y)
   outcomes n m x y e = let q : notSet n ≡ notSet m = ap (λ (l : Left). l .reply) e in (cc, ap (λ (l : Left). l .scratch) e)

@@ -6,7 +6,7 @@ use Prim.Native.Nat.{ℕ}
 use Rattle.words.specs.Refusals.{number}
 use Rattle.words.specs.declared.refusals.Refusal.{Refusal}
 use Rattle.sets.specs.Calls.{SetLeft, setLeft, freshSetCall}
-use Rattle.configs.specs.Replies.{settled, addedReply}
+use Rattle.configs.specs.Replies.{settled, addedReply, addedLeft}
 use Rattle.configs.specs.declared.settle.Settled.{Settled}
 use Rattle.configs.specs.declared.settle.Settled.the-variants.{Done, Refused as NotSettled}
 use Rattle.configs.specs.declared.adding.Added.{Added}
@@ -48,7 +48,7 @@ module _ (b : List ℕ) (r : ℕ) (u v v′ z : List ℕ) (full : Bool) (a : Set
 
 -- ---- a config more
 
-pub added-call : (b : List ℕ) (x : SetLeft) (a : Added) (r : ℕ) (u w v z : List ℕ) → setLeft (addedReply a) w v z ≡ x
+pub added-call : (b : List ℕ) (x : SetLeft) (a : Added) (r : ℕ) (u w v z : List ℕ) → addedLeft a w v z ≡ x
     → Wrote b 0 (setLineOf [] (addedReply a)) r u → SetReplied b [] x r u w v z
 added-call b x a r u w v z e p = rw (← e) (record { wrote = p; store = refl; set = refl; scratch = refl })
 
@@ -57,9 +57,9 @@ module _ (b : List ℕ) (j : ℕ) (u : List ℕ) (a : Added) where
   unfolding setLineOf addedLine
   inserted-line e v = rw e v
 
-  pub merged-line : a ≡ Merged → Wrote b 0 (numberLine 65 0) j u → Wrote b 0 (setLineOf [] (addedReply a)) j u
+  pub merged-line : (n : ℕ) → a ≡ Merged n → Wrote b 0 (numberLine 65 0) j u → Wrote b 0 (setLineOf [] (addedReply a)) j u
   unfolding setLineOf addedLine
-  merged-line e v = rw e v
+  merged-line n e v = rw e v
 
   pub not-added-line : (f : Refusal) (n : ℕ) → a ≡ NotAdded f → n ≡ number f → Wrote b 0 (numberLine 82 n) j u → Wrote b 0 (setLineOf [] (addedReply a)) j u
   unfolding setLineOf refusalLine

@@ -1,4 +1,3 @@
 // What a script runs, over a buffer that is known to have room: no part of a public face.
 pub mod changes;
 pub mod stops;
-pub mod verdict;

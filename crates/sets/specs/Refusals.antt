@@ -131,7 +131,7 @@ module _ (k : ℕ) (v : List ℕ) (x : Config) (s : SoundSet k v) where
   full-exactly = (full-new, new-full)
 
 module _ (w v z : List ℕ) (x : Config) where
-  -- 2, 1, 3, 7, 4, 8, 6
+  -- 2, 1, 3, 7, 4, 8, 12, 6
   pub add-refused-exactly : (n : ℕ) → (addCall w v z x .reply ≡ refused n) ↔ (due (addChecks w v z x) ≡ at n)
   unfolding addCall
   add-refused-exactly = refused-exactly w v z (addChecks w v z x) _ (λ m. not-added _ m)

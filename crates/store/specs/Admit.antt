@@ -13,7 +13,7 @@ use Rattle.layout.specs.Layout.{storeWords, scratchWords, blank, count}
 use Rattle.layout.specs.Sound.{SoundWords}
 use Rattle.encoding.specs.Decide.Laws.{sound-false, true-sound}
 use Rattle.recordcheck.specs.Check.{Ready}
-use Rattle.store.specs.Calls.{refused, Left, zeros, kept}
+use Rattle.store.specs.Calls.{refused, Left, leaves, zeros, kept}
 use Rattle.store.specs.Nested.{ifLengths, ifSound, ifKnown, checked}
 use Rattle.store.specs.declared.inner.admit.Admitted.{Admitted}
 use Rattle.store.specs.declared.inner.admit.Admitted.the-variants.{Ready as ready, Refused}
@@ -21,21 +21,21 @@ use Rattle.store.specs.declared.inner.admit.Admitted.the-variants.{Ready
 -- the store is ready, and the call goes on; or it is refused, and this is what it leaves
 abbrev pub Opened : List ℕ → List ℕ → Admitted → List ℕ → Type 0
 Opened w z ready u = Ready w u × ((go : Left) → checked w z go ≡ go)
-Opened w z (Refused f) u = (go : Left) → checked w z go ≡ record { reply = refused (number f); store = w; scratch = u }
+Opened w z (Refused f) u = (go : Left) → checked w z go ≡ leaves (refused (number f)) w u
 
 -- and the context is known
 abbrev pub Admits : List ℕ → List ℕ → ℕ → Admitted → List ℕ → Type 0
 Admits w z c ready u = Ready w u × (c < count w) × ((go : Left) → checked w z (ifKnown w c go) ≡ go)
-Admits w z c (Refused f) u = (go : Left) → checked w z (ifKnown w c go) ≡ record { reply = refused (number f); store = w; scratch = u }
+Admits w z c (Refused f) u = (go : Left) → checked w z (ifKnown w c go) ≡ leaves (refused (number f)) w u
 
 -- ---- the checks, decided
 
 module _ (w z : List ℕ) (go : Left) where
-  pub short-store : (length w ≡ storeWords → ⊥) → checked w z go ≡ record { reply = refused 2; store = w; scratch = z }
+  pub short-store : (length w ≡ storeWords → ⊥) → checked w z go ≡ leaves (refused 2) w z
   unfolding checked ifLengths
   short-store n = rw (ne-eqb (length w) storeWords n, ifLengths)
 
-  pub short-scratch : (length z ≡ scratchWords → ⊥) → checked w z go ≡ record { reply = refused 2; store = w; scratch = z }
+  pub short-scratch : (length z ≡ scratchWords → ⊥) → checked w z go ≡ leaves (refused 2) w z
   unfolding checked ifLengths
   short-scratch n = rw (ne-eqb (length z) scratchWords n, and-false (eqb (length w) storeWords), ifLengths)
 
@@ -75,4 +75,4 @@ module _ (w z u : List ℕ) (c : ℕ) (r : Admitted) (e : r ≡ ready) (o : Open
   admits-known h = (opened-ready, h, λ go. (rw e at o) .1 (ifKnown w c go) ∙ known-goes w c go h)
 
   pub admits-unknown : count w ≤ c → (y : List ℕ) → y ≡ zeros → Admits w z c (Refused UnknownContext) y
-  admits-unknown h y q = λ go. (rw e at o) .1 (ifKnown w c go) ∙ unknown w c go h ∙ ap (λ (x : List ℕ). record { reply = refused 4; store = w; scratch = x }) (sym q)
+  admits-unknown h y q = λ go. (rw e at o) .1 (ifKnown w c go) ∙ unknown w c go h ∙ ap (λ (x : List ℕ). leaves (refused 4) w x) (sym q)

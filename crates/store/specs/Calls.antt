@@ -10,6 +10,7 @@ use Rattle.arena.specs.Store.{Store, dollar}
 use Rattle.layout.specs.Layout.{storeWords, scratchWords, blank, count as contexts}
 use Rattle.layout.specs.Encode.{wordsOf}
 use Rattle.encoding.specs.Decide.{sound, fits}
+use Rattle.work.specs.Counted.{Outcome, tooMuch}
 use Rattle.store.specs.Checks.{Check, given, unless}
 
 -- a reply: a refusal with its number and nothing else, or what was asked for; a context, a state and a count are never one another
@@ -22,14 +23,19 @@ pub data Reply : Type 0 where
   holds : Bool → Reply
   none : Reply
 
--- the reply and every word afterwards
+-- the reply, how many merges were counted, and every word afterwards
 pub record Left : Type 0 where
   pub reply : Reply
+  pub merges : ℕ
   pub store : List ℕ
   pub scratch : List ℕ
 
+-- after n merges
+abbrev pub leavesAfter : ℕ → Reply → List ℕ → List ℕ → Left
+leavesAfter n r w z = record { reply = r; merges = n; store = w; scratch = z }
+
 abbrev pub leaves : Reply → List ℕ → List ℕ → Left
-leaves r w z = record { reply = r; store = w; scratch = z }
+leaves r w z = leavesAfter 0 r w z
 
 -- the scratch as a call that was not refused 2 leaves it
 unfoldable pub zeros : List ℕ
@@ -61,11 +67,18 @@ unknownContext w c = given 4 (not (ltb c (contexts w)))
 abbrev pub noRoom : Store → Check
 noRoom s = given 6 (not (fits s))
 
+-- "too much work": more merges than the ceiling
+abbrev pub tooMuchWork : Outcome ℕ → Check
+tooMuchWork o = given 12 (tooMuch o)
+
 -- ---- what a call leaves that is not refused
 
--- a number, and the words of the store that has it
+-- a number, after n merges, and the words of the store that has it
+abbrev pub madeAfter : ℕ → ℕ × Store → Left
+madeAfter n x = leavesAfter n (context (x .0)) (wordsOf (x .1)) zeros
+
 abbrev pub made : ℕ × Store → Left
-made x = leaves (context (x .0)) (wordsOf (x .1)) zeros
+made x = madeAfter 0 x
 
 -- a call that only reads, on the context c: w is the store's words, z the scratch's, r the reply
 abbrev pub askChecks : List ℕ → List ℕ → ℕ → List Check

@@ -18,9 +18,9 @@ unfoldable pub unless {ℓ} : {A : Type ℓ} → List Check → (ℕ → A) → 
 unless [] refuse go = go
 unless (c ∷ cs) refuse go = elim (c .holds) [ true ↦ refuse (c .number) | false ↦ unless cs refuse go ]
 
--- "Refusal numbers, in order of checking"
+-- "Refusal numbers, in order of checking"; of room and work the one that is reached first, so 6 is told of calls that are not refused 12
 abbrev pub order : List ℕ
-order = 2 ∷ 1 ∷ 3 ∷ 10 ∷ 7 ∷ 4 ∷ 5 ∷ 8 ∷ 6 ∷ 9 ∷ []
+order = 2 ∷ 1 ∷ 3 ∷ 10 ∷ 7 ∷ 4 ∷ 5 ∷ 8 ∷ 12 ∷ 6 ∷ 9 ∷ []
 
 -- ---- when a refusal is due
 

@@ -6,7 +6,8 @@ use mathlib.Core.List.{List, [], _∷_}
 use Prim.Native.Nat.{ℕ}
 use lib.ListN.{length, getD}
 use Rattle.words.specs.declared.refusals.Refusal.{Refusal}
-use Rattle.words.specs.declared.refusals.Refusal.the-variants.{WrongLength, UnsoundStore, UnsoundSet, TooManyStops, ReadOnlySet, UnknownContext, StateOutOfRange, FullSet, FullStore, MalformedRecord}
+use Rattle.words.specs.declared.refusals.Refusal.the-variants.{WrongLength, UnsoundStore, UnsoundSet, TooManyStops, ReadOnlySet, UnknownContext, StateOutOfRange, FullSet, FullStore, TooMuchWork}
+use Rattle.words.specs.declared.refusals.Refusal.the-variants.{MalformedRecord}
 use Rattle.words.specs.Refusals.{number}
 use Rattle.arena.specs.Store.{dollar}
 use Rattle.layout.specs.Encode.{wordsOf}
@@ -21,11 +22,11 @@ use Rattle.store.specs.Renewed.{renewed}
 use Rattle.store.specs.declared.renew.Renewed.{Renewed}
 use Rattle.store.specs.declared.renew.Renewed.the-variants.{Done, Refused}
 
--- by number from 0 on; 0 is none's
+-- by number from 0 on; 0 and 11 are none's
 refusals : List Refusal
 refusals =
     WrongLength ∷ UnsoundStore ∷ WrongLength ∷ UnsoundSet ∷ UnknownContext ∷ StateOutOfRange ∷ FullStore ∷ ReadOnlySet ∷ FullSet
-    ∷ MalformedRecord ∷ TooManyStops ∷ []
+    ∷ MalformedRecord ∷ TooManyStops ∷ WrongLength ∷ TooMuchWork ∷ []
 
 by-number : (f : Refusal) → getD refusals (number f) WrongLength ≡ f
 unfolding refusals
@@ -38,6 +39,7 @@ by-number UnknownContext = refl
 by-number StateOutOfRange = refl
 by-number FullSet = refl
 by-number FullStore = refl
+by-number TooMuchWork = refl
 by-number MalformedRecord = refl
 
 pub number-tells : (f g : Refusal) → refused (number f) ≡ refused (number g) → f ≡ g

@@ -5,7 +5,7 @@ use mathlib.Core.Bool.{Bool, true, false}
 use mathlib.Core.List.{List}
 use Prim.Native.Nat.{ℕ}
 use Rattle.replies.specs.Replies.{Lent}
-use Rattle.script.specs.Steps.{fresh, runFrom, runOf}
+use Rattle.steps.specs.Steps.{fresh, runFrom, runOf}
 
 -- those that the script leads to; or, where a write failed, those after some of its steps
 abbrev pub Traced : List ℕ → Bool → Lent → Type 0

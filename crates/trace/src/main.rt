@@ -6,10 +6,10 @@ use libc::STDERR_FILENO;
 use libc::STDIN_FILENO;
 use libc::STDOUT_FILENO;
 use lines::LINE_BYTES;
-use script::MOST_BYTES;
-use script::Ran;
-use script::SET_WORDS;
-use script::STOP_WORDS;
+use steps::MOST_BYTES;
+use steps::Ran;
+use steps::SET_WORDS;
+use steps::STOP_WORDS;
 ghost use Prim.Native.Nat.{_≤_};
 ghost use lib.ListN.{length};
 ghost use Rattle.replies.specs.Replies.{lent};
@@ -38,10 +38,10 @@ fn run_script(
 ) -> bool
     ensures { λ r. ⌜ Traced (now (bytes .entry)) r (lent (now (store .exit)) (now (set .exit)) (now (stops .exit)) (now (scratch .exit))) ⌝ }
 {
-    script::start(store, set, stops, scratch);
+    steps::start(store, set, stops, scratch);
     let mut at = 0;
     loop {
-        let ran = script::run_step(bytes, at, store, set, stops, scratch, out);
+        let ran = steps::run_step(bytes, at, store, set, stops, scratch, out);
         match ran {
             Ran::Next(wrote, next) => {
                 if !write_reply(out, wrote) {

@@ -2,7 +2,7 @@
 ghost use mathlib.Core.Path.{_≡_};
 ghost use Rattle.words.specs.Refusals.{number};
 
-// Why a call was refused, in the order of checking. Document 02's numbers 12 to 15 come here.
+// Why a call was refused, in the order of checking; room and work, by which is reached first. Document 02's numbers 13 to 15 come here.
 pub enum Refusal {
     WrongLength,
     UnsoundStore,
@@ -13,6 +13,7 @@ pub enum Refusal {
     StateOutOfRange,
     FullSet,
     FullStore,
+    TooMuchWork,
     MalformedRecord,
 }
 
@@ -30,6 +31,7 @@ pub fn refusal_number(refusal: Refusal) -> u32
         Refusal::StateOutOfRange => 5,
         Refusal::FullSet => 8,
         Refusal::FullStore => 6,
+        Refusal::TooMuchWork => 12,
         Refusal::MalformedRecord => 9,
     }
 }

@@ -131,3 +131,12 @@ counted m t a b = deep m (suc (a + b)) t a b
 -- the call: it begins with no result kept and no merge counted
 unfoldable pub counting : Bool → Store → ℕ → ℕ → Outcome ℕ
 counting m s a b = counted m (standing s [] 0) a b
+
+-- was the call refused 12, and how many merges were counted
+unfoldable pub tooMuch : Outcome ℕ → Bool
+tooMuch (done c t) = false
+tooMuch (refused n) = eqb n 12
+
+unfoldable pub countOf : Outcome ℕ → ℕ
+countOf (done c t) = t .count
+countOf (refused n) = 0

@@ -5,7 +5,7 @@ use mathlib.Core.Bool.{true, false}
 use Prim.Native.Nat.{ℕ, _<_}
 use native.Mathlib.Omega.{arith}
 use lib.Dec.{eqb}
-use borrow.Author.Tests.{ne-eqb}
+use borrow.Author.Tests.{eq-eqb, ne-eqb}
 use Rattle.arena.specs.Store.{Node, end, dollar, push}
 use Rattle.arena.specs.Soundness.{Full}
 use Rattle.arena.specs.Below.{NodeBelow}
@@ -34,18 +34,18 @@ tail (push r p n) = n
 unfoldable pub cons : ℕ → ℕ → Node → Node
 cons r p x = elim (eqb r stop) [ true ↦ dollar | false ↦ push r p x ]
 
-cons-stop : (p : ℕ) (x : Node) → cons stop p x ≡ dollar
+pub cons-stop : (r p : ℕ) (x : Node) → r ≡ stop → cons r p x ≡ dollar
 unfolding cons
-cons-stop p x = refl
+cons-stop r p x e = rw (eq-eqb r stop e, cons)
 
-cons-push : (r p : ℕ) (x : Node) → r < stop → cons r p x ≡ push r p x
+pub cons-push : (r p : ℕ) (x : Node) → (r ≡ stop → ⊥) → cons r p x ≡ push r p x
 unfolding cons
-cons-push r p x h = rw (ne-eqb r stop (λ e. omega arith), cons)
+cons-push r p x n = rw (ne-eqb r stop n, cons)
 
 -- an entry below `stop` ahead of the others
 before-cons : (r p : ℕ) (o : Outcome Node) → r < stop → before r p o ≡ onward (cons r p) o
 unfolding before onward
-before-cons r p o h = onward-same (push r p) (cons r p) o (λ n. sym (cons-push r p n h))
+before-cons r p o h = onward-same (push r p) (cons r p) o (λ n. sym (cons-push r p n (λ e. omega arith)))
 
 -- two records' entries, both with an entry, and with states below `stop`
 pub record Heads (n k : Node) : Type 0 where
@@ -87,7 +87,7 @@ module _ (inner : Merge) (t : State) where
     head-equal dollar dollar v h c u e =
         let q : _≡_ {A = Outcome ℕ} (done 0 t) (done c u) = sym equals ∙ e in
         let s : t ≡ u = cc in
-        rw (cons-stop c end, s)
+        rw (cons-stop stop c end refl, s)
     head-equal dollar (push q o k) v h c u e = absurd (omega (arith, v .rightBelow .0))
     head-equal (push r p n) end v h c u e = absurd (v .right)
     head-equal (push r p n) dollar v h c u e = absurd (omega (arith, v .leftBelow .0))

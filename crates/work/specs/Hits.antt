@@ -22,7 +22,7 @@ beq-self : (m : Bool) → Bool·beq m m ≡ true
 beq-self true = refl
 beq-self false = refl
 
-recall-new : (r : Result) (k : List Result) → recall (r .kind) (r .smaller) (r .larger) (r ∷ k) ≡ at (r .context)
+pub recall-new : (r : Result) (k : List Result) → recall (r .kind) (r .smaller) (r .larger) (r ∷ k) ≡ at (r .context)
 unfolding recall
 recall-new r k = rw (beq-self (r .kind), eq-eqb (r .smaller) (r .smaller) refl, eq-eqb (r .larger) (r .larger) refl, recall)
 

@@ -2,6 +2,7 @@
 //! and verdicts beside the original, configs added to sets beside both. Both sides are called through a
 //! boundary that is not inlined, turn by turn in one run, and the best round of each is compared.
 mod doors;
+mod heavy;
 mod leaves;
 mod merges;
 mod plain;
@@ -10,7 +11,7 @@ mod sets;
 mod singletons;
 mod verdicts;
 
-const HELP: &str = "bench [leaves | singletons | merges | sets | verdicts]: times these, or all";
+const HELP: &str = "bench [leaves | singletons | merges | heavy | sets | verdicts]: times these, or all";
 
 fn main() {
     let words: Vec<String> = std::env::args().skip(1).collect();
@@ -19,12 +20,14 @@ fn main() {
             leaves::time_all();
             singletons::time_all();
             merges::time_all();
+            heavy::time_all();
             sets::time_all();
             verdicts::time_all();
         }
         ["leaves"] => leaves::time_all(),
         ["singletons"] => singletons::time_all(),
         ["merges"] => merges::time_all(),
+        ["heavy"] => heavy::time_all(),
         ["sets"] => sets::time_all(),
         ["verdicts"] => verdicts::time_all(),
         _ => {

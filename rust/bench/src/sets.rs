@@ -136,12 +136,13 @@ impl Lent {
             reaches_into_outer_context: config.reach,
             semantic_provenance_and_flags: config.provenance,
         });
-        raw::add(&mut self.store, &mut self.set, &mut self.scratch, config).expect("a case has room")
+        let added = raw::add(&mut self.store, &mut self.set, &mut self.scratch, config);
+        added.expect("a case has room").inserted
     }
 
     fn plain(&mut self, config: &Config) -> bool {
         let config = black_box(config.words());
-        plain::add(&mut self.store, &mut self.set, &mut self.scratch, config).expect("a case has room")
+        plain::add(&mut self.store, &mut self.set, &mut self.scratch, config).expect("a case has room").0
     }
 
     fn close(&mut self) {

@@ -2,6 +2,7 @@
 
 use crate::layout::{DOLLAR, EMPTY_MARK, SCRATCH_WORDS, STORE_WORDS, narrow, wide};
 use crate::store::Store;
+use crate::verdicts::Reason;
 
 /// Refusals, by document 01's numbers.
 pub const UNSOUND_STORE: u32 = 1;
@@ -13,6 +14,7 @@ pub const FULL_STORE: u32 = 6;
 pub const READ_ONLY_SET: u32 = 7;
 pub const FULL_SET: u32 = 8;
 pub const TOO_MANY_STOPS: u32 = 10;
+pub const TOO_MUCH_WORK: u32 = 12;
 
 #[derive(Clone, Copy, Debug, Eq, PartialEq)]
 pub enum Call {
@@ -51,13 +53,19 @@ pub enum Reply {
     Refused(u32),
     Done,
     Context(u32),
+    /// The context of a merge, and how many merges were counted.
+    Merged {
+        context: u32,
+        merges: u32,
+    },
     Count(u32),
     Truth(bool),
     /// A return state or a parent; `None` where there is none.
     Entry(Option<u64>),
-    /// A config went last; or it was merged.
+    /// A config went last; or it was merged, and so many merges were counted.
     Added {
         inserted: bool,
+        merges: u32,
     },
     /// An alternative; `None` where there is none.
     Alternative(Option<u32>),
@@ -68,6 +76,8 @@ pub enum Reply {
         viable: Option<u32>,
         verdict: bool,
     },
+    /// The alternatives of a clash stand in the output.
+    Reason(Reason),
 }
 
 /// All that a call leaves.
@@ -144,7 +154,9 @@ fn answer(store: &Store, call: &Call) -> Result<Answer, u32> {
         Call::Merge { left, right, wildcard } => {
             known(store, left)?;
             known(store, right)?;
-            made(store, |grown| grown.merge(left, right, wildcard))
+            let mut grown = store.clone();
+            let (context, merges) = grown.merge_in_call(left, right, wildcard)?;
+            Ok(Answer::Made(Reply::Merged { context, merges }, grown))
         }
         Call::Len { context } => {
             known(store, context)?;

@@ -25,3 +25,4 @@ pub use sound::is_sound;
 pub use sound_set::is_sound_set;
 pub use store::{Entry, Store};
 pub use verdict_calls::{VerdictCall, VerdictOutcome};
+pub use verdicts::Reason;

@@ -2,8 +2,7 @@
 //! afterwards.
 
 use crate::calls::{
-    FULL_SET, FULL_STORE, Lent, READ_ONLY_SET, Reply, UNKNOWN_CONTEXT, UNSOUND_SET, UNSOUND_STORE,
-    WRONG_LENGTH,
+    FULL_SET, Lent, READ_ONLY_SET, Reply, UNKNOWN_CONTEXT, UNSOUND_SET, UNSOUND_STORE, WRONG_LENGTH,
 };
 use crate::layout::{MOST_CONFIGS, SCRATCH_WORDS, SET_WORDS, STORE_WORDS};
 use crate::set::{Config, ConfigSet};
@@ -123,13 +122,12 @@ fn add(store: &Store, mut set: ConfigSet, config: Config) -> Result<Answer, u32>
             return Err(FULL_SET);
         }
         set.configs.push(config);
-        return Ok(Answer { reply: Reply::Added { inserted: true }, store: None, set });
+        return Ok(Answer { reply: Reply::Added { inserted: true, merges: 0 }, store: None, set });
     };
     // "The contexts are merged (wildcard unless flag 1)."
     let held = set.configs[place];
     let mut grown = store.clone();
-    let merged = |store: &mut Store| store.merge(held.context, config.context, !set.full_context);
-    let context = grown.within_ceilings(merged).ok_or(FULL_STORE)?;
+    let (context, merges) = grown.merge_in_call(held.context, config.context, !set.full_context)?;
     set.configs[place] = held.joined(&config, context);
-    Ok(Answer { reply: Reply::Added { inserted: false }, store: Some(grown), set })
+    Ok(Answer { reply: Reply::Added { inserted: false, merges }, store: Some(grown), set })
 }

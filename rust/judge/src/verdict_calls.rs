@@ -8,7 +8,7 @@ use crate::layout::{
 use crate::set::Config;
 use crate::set_calls::LentSet;
 use crate::verdicts::{
-    all_subsets_conflict, all_subsets_equal, conflict_words, conflicting_alts, single_viable_alt,
+    all_subsets_conflict, all_subsets_equal, conflict_words, conflicting_alts, reason, single_viable_alt,
     subset_words, subsets, unique_alt, verdict,
 };
 
@@ -27,6 +27,11 @@ pub enum VerdictCall {
     ConflictingAlts(Vec<u32>),
     /// All at once, with these stop states.
     Figures(Vec<u32>),
+    /// Why, with these stop states, over these words.
+    Why {
+        stops: Vec<u32>,
+        output: Vec<u32>,
+    },
 }
 
 /// What a call leaves of all words that it is lent.
@@ -44,7 +49,9 @@ impl VerdictCall {
     fn output(&self) -> (&[u32], usize) {
         match self {
             VerdictCall::ConflictingAltSubsets(output) => (output, SUBSET_WORDS),
-            VerdictCall::ConflictingAlts(output) => (output, CONFLICT_WORDS),
+            VerdictCall::ConflictingAlts(output) | VerdictCall::Why { output, .. } => {
+                (output, CONFLICT_WORDS)
+            }
             _ => (&[], 0),
         }
     }
@@ -56,7 +63,9 @@ impl VerdictCall {
             VerdictCall::SingleViableAlt => Reply::Alternative(single_viable_alt(configs)),
             VerdictCall::AllSubsetsConflict => Reply::Truth(all_subsets_conflict(configs)),
             VerdictCall::AllSubsetsEqual => Reply::Truth(all_subsets_equal(configs)),
-            VerdictCall::Verdict(stops) | VerdictCall::Figures(stops) if stops.len() > MOST_STOPS => {
+            VerdictCall::Verdict(stops) | VerdictCall::Figures(stops) | VerdictCall::Why { stops, .. }
+                if stops.len() > MOST_STOPS =>
+            {
                 return Err(TOO_MANY_STOPS);
             }
             VerdictCall::Verdict(stops) => Reply::Truth(verdict(configs, stops)),
@@ -65,6 +74,10 @@ impl VerdictCall {
             }
             VerdictCall::ConflictingAlts(_) => {
                 return Ok((Reply::Done, conflict_words(&conflicting_alts(configs))));
+            }
+            VerdictCall::Why { stops, .. } => {
+                let (reason, alternatives) = reason(configs, stops);
+                return Ok((Reply::Reason(reason), conflict_words(&alternatives)));
             }
             VerdictCall::Figures(stops) => Reply::Figures {
                 subsets: narrow(subsets(configs).len()),

@@ -85,6 +85,32 @@ pub fn verdict(configs: &[Config], stops: &[u32]) -> bool {
     some_conflict && configs.iter().all(|config| alternatives_of(configs, config.state) >= 2)
 }
 
+/// Why the verdict is what it is; the alternatives of a clash are told beside it.
+#[derive(Clone, Copy, Debug, Eq, PartialEq)]
+pub enum Reason {
+    Stop,
+    NoClash,
+    One { state: u32, alternative: u32 },
+    Clash { state: u32, context: u32 },
+}
+
+/// "Every config has stopped; no subset holds two alternatives; state s has only alternative a, the first such
+/// state in set order; or a clash, with state, context and alternatives of the first subset that holds two or
+/// more. The reasons are tried in that order."
+pub fn reason(configs: &[Config], stops: &[u32]) -> (Reason, BTreeSet<u32>) {
+    if configs.iter().all(|config| stops.contains(&config.state)) {
+        return (Reason::Stop, BTreeSet::new());
+    }
+    let Some(clash) = subsets(configs).into_iter().find(Subset::conflicts) else {
+        return (Reason::NoClash, BTreeSet::new());
+    };
+    let lone = configs.iter().find(|config| alternatives_of(configs, config.state) == 1);
+    match lone {
+        Some(&Config { state, alternative, .. }) => (Reason::One { state, alternative }, BTreeSet::new()),
+        None => (Reason::Clash { state: clash.state, context: clash.context }, clash.alternatives),
+    }
+}
+
 /// How many alternatives a state has.
 fn alternatives_of(configs: &[Config], state: u32) -> usize {
     let of_state = configs.iter().filter(|config| config.state == state);

@@ -52,7 +52,12 @@ fn compare(machine: &mut Machine, lent: &Lent, record: &Record, what: &str) -> V
     }
     let (reply, words) = judged(lent, call_of(record).expect("a record of the store"));
     match theirs {
-        Ok(reply::Reply::Context(number)) => assert_eq!(reply, Reply::Context(number), "{what}"),
+        Ok(reply::Reply::Context(context)) => {
+            let merges = machine.merges_of_last_call();
+            let merged = matches!(record, Record::Merge { .. });
+            let theirs = if merged { Reply::Merged { context, merges } } else { Reply::Context(context) };
+            assert_eq!(reply, theirs, "{what}");
+        }
         Err(number) => assert_eq!(reply, Reply::Refused(number), "{what}"),
         Ok(other) => panic!("{what}: the oracle says {other:?}"),
     }
@@ -63,8 +68,9 @@ fn compare(machine: &mut Machine, lent: &Lent, record: &Record, what: &str) -> V
 #[test]
 fn generated_scripts() {
     let mut compared = 0;
-    for index in 0..600 {
-        let made = generate::script(23, index, Kinds::Store);
+    let heavy = (0..6).map(|index| generate::heavy_script(23, index, Kinds::Store));
+    let others = (0..600).map(|index| generate::script(23, index, Kinds::Store));
+    for (index, made) in heavy.chain(others).enumerate() {
         let (records, _) = split(&made.script, Kinds::Store);
         let mut machine = Machine::new();
         let mut words = machine.store_words();

@@ -40,15 +40,20 @@ fn judged(words: &mut Words, record: &Record) -> Option<Reply> {
         Record::NewSet { mode } => on_the_set(words, &SetCall::Fresh { full_context: mode == Mode::Full }),
         Record::Add(config) => on_the_set(words, &SetCall::Add(Config::of(config.words()))),
         Record::Close => on_the_set(words, &SetCall::Close),
-        Record::Stops(_) | Record::Verdict | Record::Show { .. } => return None,
+        Record::Stops(_) | Record::Verdict | Record::Why | Record::Show { .. } => return None,
     };
     Some(reply)
 }
 
 fn theirs(machine: &mut Machine, record: &Record) -> Reply {
     match machine.call(record) {
+        Ok(reply::Reply::Context(context)) if matches!(record, Record::Merge { .. }) => {
+            Reply::Merged { context, merges: machine.merges_of_last_call() }
+        }
         Ok(reply::Reply::Context(number)) => Reply::Context(number),
-        Ok(reply::Reply::Added { inserted }) => Reply::Added { inserted },
+        Ok(reply::Reply::Added { inserted }) => {
+            Reply::Added { inserted, merges: machine.merges_of_last_call() }
+        }
         Ok(reply::Reply::NewSet | reply::Reply::Closed) => Reply::Done,
         Ok(other) => panic!("{record:?} answers {other:?}"),
         Err(refusal) => Reply::Refused(refusal.0.into()),
@@ -58,8 +63,9 @@ fn theirs(machine: &mut Machine, record: &Record) -> Reply {
 #[test]
 fn generated_scripts() {
     let mut compared = 0;
-    for index in 0..1_000 {
-        let made = generate::script(31, index, Kinds::All);
+    let heavy = (0..3).map(|index| generate::heavy_script(31, index, Kinds::All));
+    let others = (0..1_000).map(|index| generate::script(31, index, Kinds::All));
+    for (index, made) in heavy.chain(others).enumerate() {
         let (records, _) = split(&made.script, Kinds::All);
         if !records.iter().any(|record| matches!(record, Record::Add(_))) {
             continue;

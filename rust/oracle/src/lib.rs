@@ -1,7 +1,8 @@
 //! The oracle: the Rust runtime's own `prediction.rs`, driven by the scripts of document 01.
 //!
 //! `prediction` holds the runtime's file byte for byte; its children `driver` and `words` reach its
-//! private fields. Everything else here reads, writes, makes and compares scripts.
+//! private fields. `counted` counts the work of a merge by request A10. Everything else here reads, writes,
+//! makes and compares scripts.
 
 /// The runtime's file, included so that modules of ours can be its children.
 #[allow(dead_code, clippy::all)]
@@ -19,6 +20,7 @@ pub mod prediction {
 }
 
 pub mod compare;
+pub mod counted;
 pub mod generate;
 pub mod record;
 pub mod reply;

@@ -23,9 +23,10 @@ oracle: the Rust that the port is held against, over the scripts of document 01
   oracle disassemble [FILE]                     bytes to text
   oracle generate --seed S --index I [--family NAME] [--kinds ..] [--text]     one generated script
   oracle generate --families                    the families' names
-  oracle compare --program PROG [--scripts N] [--seed S] [--kinds ..] [--words R] [--args WORD ..]
-                                                N generated scripts and every word of up to R records through
-                                                the oracle and through PROG WORD .., one process a script
+  oracle compare --program PROG [--scripts N] [--heavy H] [--seed S] [--kinds ..] [--words R] [--args WORD ..]
+                                                N generated scripts, H more with heavy merges and every word of
+                                                up to R records through the oracle and through PROG WORD .., one
+                                                process a script
   oracle record --scripts N --seed S --max-bytes B [--kinds ..] [--out FILE]
                                                 scripts with their answers, for `replay`
   oracle help
@@ -144,6 +145,7 @@ fn compare_program(mut options: Options) -> Result<ExitCode, String> {
         seed: options.number("--seed", 1)?,
         scripts: options.number("--scripts", 1_000)?,
         words: options.number("--words", 0)?,
+        heavy: options.number("--heavy", 0)?,
     };
     options.end()?;
     let outcome = compare::compare(&plan);

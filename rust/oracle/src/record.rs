@@ -18,6 +18,7 @@ pub enum Record {
     Verdict,
     Show { context: u32 },
     Close,
+    Why,
 }
 
 /// The six words of a config, in the order of the record and of the set.
@@ -43,7 +44,7 @@ impl Kinds {
     pub fn knows(self, kind: u16) -> bool {
         match self {
             Kinds::Store => matches!(kind, 1 | 2 | 7),
-            Kinds::All => (1..=8).contains(&kind),
+            Kinds::All => (1..=9).contains(&kind),
         }
     }
 }
@@ -113,6 +114,7 @@ fn decode(kind: u16, payload: &[u8]) -> Option<Record> {
         (6, 0) => Some(Record::Verdict),
         (7, 4) => Some(Record::Show { context: word(payload, 0) }),
         (8, 0) => Some(Record::Close),
+        (9, 0) => Some(Record::Why),
         _ => None,
     }
 }
@@ -152,6 +154,7 @@ impl Record {
             Record::Verdict => 6,
             Record::Show { .. } => 7,
             Record::Close => 8,
+            Record::Why => 9,
         }
     }
 
@@ -177,7 +180,7 @@ impl Record {
             Record::NewSet { mode } => vec![mode.byte()],
             Record::Add(config) => little_endian(&config.words()),
             Record::Stops(states) => little_endian(states),
-            Record::Verdict | Record::Close => Vec::new(),
+            Record::Verdict | Record::Close | Record::Why => Vec::new(),
             Record::Show { context } => little_endian(&[*context]),
         }
     }

@@ -13,6 +13,7 @@ pub const READ_ONLY: Refusal = Refusal(7);
 pub const SET_FULL: Refusal = Refusal(8);
 pub const MALFORMED: Refusal = Refusal(9);
 pub const TOO_MANY_STOPS: Refusal = Refusal(10);
+pub const TOO_MUCH_WORK: Refusal = Refusal(12);
 
 #[derive(Clone, Debug, Eq, PartialEq)]
 pub enum Reply {
@@ -26,6 +27,16 @@ pub enum Reply {
     /// Each entry's state and parent; `None` is the empty stack.
     Entries(Vec<Option<(u32, u32)>>),
     Closed,
+    Reason(Reason),
+}
+
+/// Why the verdict is what it is.
+#[derive(Clone, Debug, Eq, PartialEq)]
+pub enum Reason {
+    Stop,
+    NoClash,
+    One { state: u32, alternative: u32 },
+    Clash { state: u32, context: u32, alternatives: Vec<u32> },
 }
 
 #[derive(Clone, Copy, Debug, Eq, PartialEq)]
@@ -52,6 +63,7 @@ impl fmt::Display for Reply {
             Reply::Verdict(verdict) => write!(out, "{verdict}"),
             Reply::Entries(entries) => show_entries(entries, out),
             Reply::Closed => write!(out, "K"),
+            Reply::Reason(reason) => write!(out, "{reason}"),
         }
     }
 }
@@ -63,6 +75,20 @@ impl fmt::Display for Verdict {
         let viable = shown(self.viable);
         let terminates = u8::from(self.terminates);
         write!(out, "V {} {unique} {viable} {terminates}", self.subsets)
+    }
+}
+
+impl fmt::Display for Reason {
+    fn fmt(&self, out: &mut fmt::Formatter<'_>) -> fmt::Result {
+        match self {
+            Reason::Stop => write!(out, "W stop"),
+            Reason::NoClash => write!(out, "W none"),
+            Reason::One { state, alternative } => write!(out, "W one {state} {alternative}"),
+            Reason::Clash { state, context, alternatives } => {
+                write!(out, "W clash {state} {context}")?;
+                alternatives.iter().try_for_each(|alternative| write!(out, " {alternative}"))
+            }
+        }
     }
 }
 

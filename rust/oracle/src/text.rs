@@ -4,6 +4,7 @@
 //! singleton PARENT STATE                                   set full|wildcard     show CONTEXT
 //! merge LEFT RIGHT full|wildcard                           stops STATE ..        verdict
 //! add STATE ALTERNATIVE CONTEXT SEMANTIC REACH PROVENANCE  hex BYTES ..          close
+//! why
 //! ```
 
 use std::fmt::{self, Write};
@@ -91,6 +92,7 @@ fn read_record(operands: &mut Operands<'_>) -> Result<Record, String> {
         "verdict" => Record::Verdict,
         "show" => Record::Show { context: operands.word("CONTEXT")? },
         "close" => Record::Close,
+        "why" => Record::Why,
         other => return Err(format!("unknown record '{other}'")),
     })
 }
@@ -200,6 +202,7 @@ impl fmt::Display for Record {
             Record::Verdict => write!(out, "verdict"),
             Record::Show { context } => write!(out, "show {context}"),
             Record::Close => write!(out, "close"),
+            Record::Why => write!(out, "why"),
         }
     }
 }

@@ -14,6 +14,7 @@ fn plan(program: &str, args: &[&str]) -> Plan {
         seed: 1,
         scripts: 150,
         words: 1,
+        heavy: 6,
     }
 }
 
@@ -25,7 +26,7 @@ fn report_on(program: &str, args: &[&str]) -> String {
 fn the_oracle_agrees_with_itself() {
     let outcome = compare(&plan(env!("CARGO_BIN_EXE_oracle"), &["run"]));
     assert_eq!(outcome.difference, None);
-    assert_eq!(outcome.scripts, 150 + 1 + 36 + each_fault().len());
+    assert_eq!(outcome.scripts, 150 + 6 + 1 + 37 + each_fault().len());
 }
 
 #[test]

@@ -29,7 +29,7 @@ fn examples_give_their_outputs() {
             found += 1;
         }
     }
-    assert!(found >= 13, "the worked example and P1 to P12 are there");
+    assert!(found >= 17, "the worked example, P1 to P12 and the four reasons are there");
 }
 
 #[test]

@@ -5,6 +5,7 @@ use std::collections::BTreeMap;
 use oracle::generate::{self, FAMILIES, alphabet, malformed};
 use oracle::prediction::driver::Machine;
 use oracle::record::{Kinds, Record, split};
+use oracle::reply::{NO_ROOM, Refusal, Reply, TOO_MUCH_WORK};
 use oracle::run::run;
 use oracle::text;
 
@@ -47,30 +48,53 @@ fn the_hash_collisions_are_real() {
     assert_eq!((machine.hash(2), machine.hash(0)), (0, 0));
 }
 
-/// Most different merges of one call over the scripts of a family, each accepted from start to end.
-fn most_merges(name: &str) -> usize {
+/// Every merge of the first scripts of a family, by its answer and what it counted.
+fn merges_of(name: &str) -> Vec<(Result<Reply, Refusal>, u32)> {
     let family = FAMILIES.iter().find(|family| family.name == name).expect("the family is there");
-    let mut most = 0;
-    for index in 0..20 {
+    let mut merges = Vec::new();
+    for index in 0..12 {
         let made = generate::script_of(family, 1, index, Kinds::Store);
         let mut machine = Machine::new();
         for record in &split(&made.script, Kinds::Store).0 {
-            machine.call(record).expect("every record of the family is accepted");
+            let answer = machine.call(record);
             if matches!(record, Record::Merge { .. }) {
-                most = most.max(machine.merges_of_last_call());
+                merges.push((answer, machine.merges_of_last_call()));
             }
         }
     }
-    most
+    merges
 }
 
 #[test]
-fn accepted_merges_have_thousands_of_inner_pairs() {
-    let many = most_merges("many pairs");
-    assert!((3_601..=4_000).contains(&many), "at most {many} different merges in a call");
-    let too_many = most_merges("too many pairs");
-    assert!(too_many > 4_096, "at most {too_many} different merges in a call");
-    println!("many pairs: {many}; too many pairs: {too_many}");
+fn merges_have_much_work() {
+    let many = merges_of("many pairs");
+    assert!(many.iter().all(|(answer, _)| answer.is_ok()));
+    let more_than_kept = many.iter().filter(|(_, merges)| (1_025..=6_000).contains(merges)).count();
+    assert!(more_than_kept >= 24, "{more_than_kept} merges count more than 1,024 and at most 6,000");
+    for (name, times) in [("too many pairs", 24), ("most pairs", 24), ("work ceiling", 24)] {
+        let refused = merges_of(name).iter().filter(|(answer, _)| *answer == Err(TOO_MUCH_WORK)).count();
+        assert!(refused >= times, "{name}: {refused} merges are too much work");
+    }
+    let ceiling = merges_of("work ceiling");
+    assert_eq!(ceiling.iter().filter(|(_, merges)| *merges == 65_536).count(), 3 * 12);
+    assert_eq!(ceiling.iter().filter(|(answer, _)| *answer == Err(NO_ROOM)).count(), 12);
+}
+
+/// The runtime itself, which keeps every result: pairs that are met in the last two merges of the family.
+#[test]
+fn the_most_pairs_are_3655_and_16364() {
+    let family = FAMILIES.iter().find(|family| family.name == "most pairs").expect("the family is there");
+    let made = generate::script_of(family, 1, 0, Kinds::Store);
+    let (records, _) = split(&made.script, Kinds::Store);
+    let mut machine = Machine::new();
+    let mut pairs = Vec::new();
+    for record in &records {
+        if let (Err(TOO_MUCH_WORK), Record::Merge { left, right, mode }) = (machine.call(record), record) {
+            assert_eq!(machine.merge_alone(*left, *right, *mode), *right, "the lower level");
+            pairs.push(machine.pairs_of_last_call());
+        }
+    }
+    assert_eq!(pairs, [3_655, 16_364]);
 }
 
 #[test]
@@ -93,11 +117,15 @@ fn every_reply_and_refusal_occurs() {
         let lines = run(&generate::script(3, index, Kinds::All).script, Kinds::All).lines;
         for line in String::from_utf8(lines).expect("lines are text").lines() {
             let refused = line.starts_with('R');
-            let sort = if refused { line } else { &line[..1] };
+            let reason = line.starts_with('W').then(|| line.split_inclusive(' ').take(2).collect::<String>());
+            let sort = if refused { line } else { reason.as_deref().map_or(&line[..1], str::trim_end) };
             *seen.entry(sort.to_owned()).or_default() += 1;
         }
     }
-    for sort in ["A", "C", "E", "K", "N", "R 10", "R 4", "R 5", "R 6", "R 7", "R 8", "R 9", "S", "T", "V"] {
+    for sort in [
+        "A", "C", "E", "K", "N", "R 10", "R 4", "R 5", "R 6", "R 7", "R 8", "R 9", "S", "T", "V", "W clash",
+        "W none", "W one", "W stop",
+    ] {
         assert!(seen.get(sort).is_some_and(|&times| times >= 20), "{sort}: {seen:?}");
     }
 }
@@ -110,8 +138,10 @@ fn families_take_turns_and_seeds_repeat() {
         assert!(made.script == generate::script(4, index, Kinds::All).script);
         *seen.entry(made.family).or_default() += 1;
     }
-    // One family is made by name alone.
-    assert_eq!(seen.len(), FAMILIES.len() - 1);
+    // The heavy ones have a count of their own.
+    assert_eq!(seen.len(), FAMILIES.len() - 3);
+    let heavy = |index| generate::heavy_script(4, index, Kinds::All).family;
+    assert_eq!([0, 1, 2, 3].map(heavy), ["too many pairs", "most pairs", "work ceiling", "too many pairs"]);
 }
 
 #[test]
@@ -128,7 +158,7 @@ fn without_sets_no_other_kind_is_run() {
 fn words_are_counted() {
     assert_eq!(alphabet::words(3, Kinds::Store).len(), 1 + 18 + 18 * 18 + 18 * 18 * 18);
     let faults = malformed::each_fault().len();
-    assert_eq!(alphabet::words(2, Kinds::All).len(), 1 + 2 * (18 + 18 * 18) + faults);
+    assert_eq!(alphabet::words(2, Kinds::All).len(), 1 + (18 + 18 * 18) + (19 + 19 * 19) + faults);
 }
 
 /// All but the three lists of stop states are malformed, and 65 of these are too many.
@@ -138,6 +168,6 @@ fn each_fault_is_one() {
     let lines: Vec<Vec<u8>> = faults.iter().map(|script| run(script, Kinds::All).lines).collect();
     assert_eq!(lines.iter().filter(|&lines| lines == b"C 1\nR 9\nT 2 0\n").count(), faults.len() - 3);
     for reply in ["S 0", "S 64", "R 10"] {
-        assert!(lines.contains(&format!("C 1\n{reply}\nK\nT 2 0\n").into_bytes()), "{reply}");
+        assert!(lines.contains(&format!("C 1\n{reply}\nW stop\nT 2 0\n").into_bytes()), "{reply}");
     }
 }

@@ -92,7 +92,7 @@ fn malformed_input_ends_the_script() {
     assert_eq!(lines(&(longest + "hex 00")), "R 9\nT 1 0\n");
     for bad in [
         "hex 00 00 00 00",                            // kind 0
-        "hex 00 00 09 00",                            // kind 9
+        "hex 00 00 0A 00",                            // kind 10
         "hex 00 00 06 01",                            // kind 262
         "hex 01 00 06 00 00",                         // a verdict with a payload
         "hex 03 00 05 00 00 00 00",                   // stop states, not a multiple of 4
@@ -110,8 +110,9 @@ fn malformed_input_ends_the_script() {
 #[test]
 fn refused_records_leave_nothing_behind() {
     let mut refused = 0;
-    for index in 0..3_000 {
-        let script = generate::script(11, index, Kinds::All).script;
+    let heavy = (0..6).map(|index| generate::heavy_script(11, index, Kinds::All).script);
+    let others = (0..3_000).map(|index| generate::script(11, index, Kinds::All).script);
+    for (index, script) in heavy.chain(others).enumerate() {
         let (records, _) = split(&script, Kinds::All);
         let (mut whole, mut without) = (Machine::new(), Machine::new());
         for record in &records {

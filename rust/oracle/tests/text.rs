@@ -33,6 +33,7 @@ stops 3 9 3
 verdict
 show 2
 close
+why
 hex 09 00 02 00
 ";
     assert_eq!(disassemble(&assemble(text).expect("good text")), text);

@@ -4,7 +4,7 @@ use std::cell::{RefCell, RefMut};
 use std::fmt;
 
 use crate::raw::{self, SCRATCH_WORDS, STORE_WORDS};
-use crate::{ContextId, Refusal, ReturnState};
+use crate::{ContextId, Merged, Refusal, ReturnState};
 
 /// A store of contexts, with the scratch that its calls need.
 ///
@@ -30,13 +30,13 @@ impl ContextArena {
     }
 
     /// The context of the merged sets: their union; or, where `root_is_wildcard`, the merge in which context
-    /// 0 swallows whatever it meets, at every depth.
+    /// 0 swallows whatever it meets, at every depth. Too much work is refused with [`Refusal::TooMuchWork`].
     pub fn merge(
         &mut self,
         left: ContextId,
         right: ContextId,
         root_is_wildcard: bool,
-    ) -> Result<ContextId, Refusal> {
+    ) -> Result<Merged, Refusal> {
         raw::merge(&mut self.store, self.scratch.get_mut(), left, right, root_is_wildcard)
     }
 

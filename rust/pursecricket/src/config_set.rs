@@ -4,7 +4,7 @@ use std::collections::BTreeSet;
 use std::fmt;
 
 use crate::raw::{self, CONFLICT_WORDS, SET_WORDS, SUBSET_WORDS};
-use crate::{Alternative, AtnConfig, ContextArena, Figures, Refusal};
+use crate::{Added, Alternative, AtnConfig, ContextArena, Figures, Reason, Refusal};
 
 /// Words of a set before its configs: count and flags.
 const FIRST_CONFIG: usize = 2;
@@ -28,14 +28,15 @@ const HAS_SEMANTIC: u32 = 2;
 ///
 /// // A new key goes last.
 /// let mut set = AtnConfigSet::new_full_context(true);
-/// assert!(set.add(AtnConfig::new(3, Alternative(1), seven), &mut arena)?);
+/// assert!(set.add(AtnConfig::new(3, Alternative(1), seven), &mut arena)?.inserted);
 ///
 /// // A known key is merged: the union of the contexts, the larger reach.
 /// let mut again = AtnConfig::new(3, Alternative(1), nine);
 /// again.reaches_into_outer_context = 5;
-/// assert!(!set.add(again, &mut arena)?);
+/// let added = set.add(again, &mut arena)?;
+/// assert_eq!((added.inserted, added.merges), (false, 1));
 /// let merged = set.configs().next().expect("one config");
-/// assert_eq!(merged.context, arena.merge(seven, nine, false)?);
+/// assert_eq!(merged.context, arena.merge(seven, nine, false)?.context);
 /// assert_eq!((set.len(), merged.reaches_into_outer_context), (1, 5));
 ///
 /// // A closed set takes nothing more, and nothing changes.
@@ -49,7 +50,7 @@ const HAS_SEMANTIC: u32 = 2;
 /// Subsets are the configs of one state and context each, as the set of their alternatives:
 ///
 /// ```
-/// use pursecricket::{Alternative, AtnConfig, AtnConfigSet, ContextArena, EMPTY_CONTEXT, Refusal};
+/// use pursecricket::{Alternative, AtnConfig, AtnConfigSet, ContextArena, EMPTY_CONTEXT, Reason, Refusal};
 ///
 /// let mut arena = ContextArena::new();
 /// let mut set = AtnConfigSet::new();
@@ -63,6 +64,9 @@ const HAS_SEMANTIC: u32 = 2;
 /// assert_eq!(set.unique_alt(&arena)?, None);
 /// assert_eq!(set.conflicting_alts(&arena)?, [1, 2].map(Alternative).into());
 ///
+/// let alternatives = [1, 2].map(Alternative).to_vec();
+/// assert_eq!(set.why(&arena, &[])?, Reason::Clash { state: 7, context: EMPTY_CONTEXT, alternatives });
+///
 /// // State 8 has one alternative only, so reading on may settle it; unless all is at a stop.
 /// set.add(AtnConfig::new(8, Alternative(2), EMPTY_CONTEXT), &mut arena)?;
 /// assert!(!set.has_sll_conflict_terminating_prediction(&arena, &[7])?);
@@ -72,6 +76,10 @@ const HAS_SEMANTIC: u32 = 2;
 /// // All at once, by one check.
 /// let figures = set.figures(&arena, &[7])?;
 /// assert_eq!((figures.subsets, figures.unique, figures.viable, figures.verdict), (2, None, None, false));
+///
+/// // And why: state 8 has alternative 2 only; with both states stops there is nothing to settle.
+/// assert_eq!(set.why(&arena, &[7])?, Reason::One { state: 8, alternative: Alternative(2) });
+/// assert_eq!(set.why(&arena, &[8, 7])?, Reason::Stop);
 ///
 /// // More than 64 stop states are refused.
 /// let verdict = set.has_sll_conflict_terminating_prediction(&arena, &[7; 65]);
@@ -97,9 +105,9 @@ impl AtnConfigSet {
         AtnConfigSet { words }
     }
 
-    /// Adds a config. A new key goes last, which answers yes. For a known key the contexts are merged, the
-    /// larger reach is kept, and the mark if either has it, which answers no.
-    pub fn add(&mut self, config: AtnConfig, arena: &mut ContextArena) -> Result<bool, Refusal> {
+    /// Adds a config. A new key goes last. For a known key the contexts are merged, the larger reach is kept,
+    /// and the mark if either has it.
+    pub fn add(&mut self, config: AtnConfig, arena: &mut ContextArena) -> Result<Added, Refusal> {
         let (store, scratch) = arena.lend();
         raw::add(store, &mut self.words, scratch, config)
     }
@@ -170,6 +178,12 @@ impl AtnConfigSet {
     /// [the verdict](Self::has_sll_conflict_terminating_prediction) at once, for the price of one check.
     pub fn figures(&self, arena: &ContextArena, rule_stop_states: &[u32]) -> Result<Figures, Refusal> {
         raw::figures(arena.words(), &self.words, &mut arena.scratch(), rule_stop_states)
+    }
+
+    /// Why [the verdict](Self::has_sll_conflict_terminating_prediction) is what it is.
+    pub fn why(&self, arena: &ContextArena, rule_stop_states: &[u32]) -> Result<Reason, Refusal> {
+        let mut output = [0; CONFLICT_WORDS];
+        raw::why(arena.words(), &self.words, &mut arena.scratch(), rule_stop_states, &mut output)
     }
 
     /// How many configs there are.

@@ -10,6 +10,15 @@ pub struct Answer {
     pub value: u32,
 }
 
+/// A refusal number; where that is 0, the value, and how many merges the call counted.
+#[derive(Clone, Copy, Debug, Eq, PartialEq)]
+#[repr(C)]
+pub struct CountedAnswer {
+    pub refusal: u32,
+    pub value: u32,
+    pub merges: u32,
+}
+
 /// A refusal number; where that is 0, whether there is an entry, and its value.
 #[derive(Clone, Copy, Debug, Eq, PartialEq)]
 #[repr(C)]
@@ -31,6 +40,18 @@ pub struct FiguresAnswer {
     pub has_viable: u32,
     pub viable: u32,
     pub verdict: u32,
+}
+
+/// A refusal number; where that is 0, which reason, 1 to 4, and the state, alternative and context that it
+/// names, 0 where it names none.
+#[derive(Clone, Copy, Debug, Eq, PartialEq)]
+#[repr(C)]
+pub struct ReasonAnswer {
+    pub refusal: u32,
+    pub reason: u32,
+    pub state: u32,
+    pub alternative: u32,
+    pub context: u32,
 }
 
 /// A query on a context: the store is only read.
@@ -71,7 +92,7 @@ unsafe extern "C" {
         left: u32,
         right: u32,
         mode: u32,
-    ) -> Answer;
+    ) -> CountedAnswer;
 
     pub fn purse_len(
         store: *const u32,
@@ -130,7 +151,7 @@ unsafe extern "C" {
         semantic: u32,
         reach: u32,
         provenance: u32,
-    ) -> Answer;
+    ) -> CountedAnswer;
 
     pub fn purse_close(
         store: *const u32,
@@ -222,4 +243,17 @@ unsafe extern "C" {
         stops: *const u32,
         stops_len: usize,
     ) -> FiguresAnswer;
+
+    pub fn purse_why(
+        store: *const u32,
+        store_len: usize,
+        set: *const u32,
+        set_len: usize,
+        scratch: *mut u32,
+        scratch_len: usize,
+        stops: *const u32,
+        stops_len: usize,
+        output: *mut u32,
+        output_len: usize,
+    ) -> ReasonAnswer;
 }

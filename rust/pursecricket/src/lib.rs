@@ -13,11 +13,16 @@
 //! let nine = arena.singleton(EMPTY_CONTEXT, ReturnState(9))?;
 //!
 //! // The union of both sets of stacks, whichever side comes first.
-//! let both = arena.merge(seven, nine, false)?;
-//! assert_eq!(arena.merge(nine, seven, false)?, both);
+//! let both = arena.merge(seven, nine, false)?.context;
+//! assert_eq!(arena.merge(nine, seven, false)?.context, both);
 //! assert_eq!(arena.len(both)?, 2);
 //! assert_eq!(arena.return_state(both, 1)?, Some(ReturnState(9)));
 //! assert_eq!(arena.parent(both, 1)?, Some(EMPTY_CONTEXT));
+//!
+//! // What is merged beneath a state counts too; a call that would count more than 65,536 is refused.
+//! let (left, right) = (arena.singleton(seven, ReturnState(5))?, arena.singleton(nine, ReturnState(5))?);
+//! assert_eq!(arena.merge(left, right, false)?.merges, 2);
+//! assert_eq!(arena.merge(left, left, false)?.merges, 0);
 //!
 //! // A state that no store can hold is refused, and nothing changes.
 //! let before = arena.words().to_vec();
@@ -31,16 +36,20 @@
 mod arena;
 mod config;
 mod config_set;
+mod counted;
 mod doors;
 mod figures;
 mod names;
 pub mod raw;
+mod reason;
 mod refusal;
 
 pub use arena::ContextArena;
 pub use config::AtnConfig;
 pub use config_set::AtnConfigSet;
+pub use counted::{Added, Merged};
 pub use figures::Figures;
 pub use names::{Alternative, ContextId, EMPTY_CONTEXT, EMPTY_RETURN_STATE, ReturnState, SemanticContextId};
 pub use raw::unique_alt_of as unique_alt;
+pub use reason::Reason;
 pub use refusal::Refusal;

@@ -7,13 +7,14 @@
 #![allow(unsafe_code)]
 
 use crate::doors::{
-    AltQuery, Answer, EntryAnswer, EntryQuery, FiguresAnswer, Query, SetQuery, Writer, purse_add,
-    purse_all_subsets_conflict, purse_all_subsets_equal, purse_close, purse_conflicting_alt_subsets,
-    purse_conflicting_alts, purse_figures, purse_fresh, purse_fresh_set, purse_has_empty_path,
-    purse_has_sll_conflict_terminating_prediction, purse_is_empty, purse_len, purse_merge, purse_parent,
-    purse_return_state, purse_single_viable_alt, purse_singleton, purse_unique_alt, purse_unique_alt_of,
+    AltQuery, Answer, CountedAnswer, EntryAnswer, EntryQuery, FiguresAnswer, Query, ReasonAnswer, SetQuery,
+    Writer, purse_add, purse_all_subsets_conflict, purse_all_subsets_equal, purse_close,
+    purse_conflicting_alt_subsets, purse_conflicting_alts, purse_figures, purse_fresh, purse_fresh_set,
+    purse_has_empty_path, purse_has_sll_conflict_terminating_prediction, purse_is_empty, purse_len,
+    purse_merge, purse_parent, purse_return_state, purse_single_viable_alt, purse_singleton,
+    purse_unique_alt, purse_unique_alt_of, purse_why,
 };
-use crate::{Alternative, AtnConfig, ContextId, Figures, Refusal, ReturnState};
+use crate::{Added, Alternative, AtnConfig, ContextId, Figures, Merged, Reason, Refusal, ReturnState};
 
 /// Words of a store.
 pub const STORE_WORDS: usize = 5_634;
@@ -57,14 +58,15 @@ pub fn singleton(
 }
 
 /// The context of the merged sets: their union; or, where `root_is_wildcard`, the merge in which context 0
-/// swallows whatever it meets, at every depth.
+/// swallows whatever it meets, at every depth. Where that would be too much work it is refused with
+/// [`Refusal::TooMuchWork`].
 pub fn merge(
     store: &mut [u32],
     scratch: &mut [u32],
     left: ContextId,
     right: ContextId,
     root_is_wildcard: bool,
-) -> Result<ContextId, Refusal> {
+) -> Result<Merged, Refusal> {
     // SAFETY: each pointer and its length are those of one exclusive slice, which outlives the call.
     let answer = unsafe {
         purse_merge(
@@ -77,7 +79,8 @@ pub fn merge(
             u32::from(root_is_wildcard),
         )
     };
-    value(answer).map(ContextId)
+    let (context, merges) = counted(answer)?;
+    Ok(Merged { context: ContextId(context), merges })
 }
 
 /// Entries of a context; context 0 has one.
@@ -124,14 +127,13 @@ pub fn fresh_set(set: &mut [u32], full_context: bool) -> Result<(), Refusal> {
     done(refusal)
 }
 
-/// Adds a config: merged into the one of the same key, where the set has one, and otherwise put last. Was it
-/// put last?
+/// Adds a config: merged into the one of the same key, where the set has one, and otherwise put last.
 pub fn add(
     store: &mut [u32],
     set: &mut [u32],
     scratch: &mut [u32],
     config: AtnConfig,
-) -> Result<bool, Refusal> {
+) -> Result<Added, Refusal> {
     let [state, alternative, context, semantic, reach, provenance] = config.words();
     // SAFETY: each pointer and its length are those of one exclusive slice, which outlives the call.
     let answer = unsafe {
@@ -150,7 +152,8 @@ pub fn add(
             provenance,
         )
     };
-    value(answer).map(truth)
+    let (inserted, merges) = counted(answer)?;
+    Ok(Added { inserted: truth(inserted), merges })
 }
 
 /// Makes a set read-only; one that is read-only stays so.
@@ -278,6 +281,45 @@ pub fn figures(store: &[u32], set: &[u32], scratch: &mut [u32], stops: &[u32]) -
     })
 }
 
+/// Why the verdict with these stop states is what it is. The alternatives of a clash are written over all 257
+/// words: how many, then these, rising; the rest 0, and all 0 where it is no clash. Refused as the verdict is;
+/// words of another length are refused with [`Refusal::WrongLength`], and a refusal leaves them.
+pub fn why(
+    store: &[u32],
+    set: &[u32],
+    scratch: &mut [u32],
+    stops: &[u32],
+    output: &mut [u32],
+) -> Result<Reason, Refusal> {
+    // SAFETY: each pointer and its length are those of one slice, which outlives the call; the scratch's and
+    // the output's are exclusive, and the others are only read.
+    let ReasonAnswer { refusal, reason, state, alternative, context } = unsafe {
+        purse_why(
+            store.as_ptr(),
+            store.len(),
+            set.as_ptr(),
+            set.len(),
+            scratch.as_mut_ptr(),
+            scratch.len(),
+            stops.as_ptr(),
+            stops.len(),
+            output.as_mut_ptr(),
+            output.len(),
+        )
+    };
+    done(refusal)?;
+    Ok(match reason {
+        1 => Reason::Stop,
+        2 => Reason::NoClash,
+        3 => Reason::One { state, alternative: Alternative(alternative) },
+        _ => {
+            let written = &output[1..=output[0] as usize];
+            let alternatives = written.iter().copied().map(Alternative).collect();
+            Reason::Clash { state, context: ContextId(context), alternatives }
+        }
+    })
+}
+
 fn ask(door: Query, store: &[u32], scratch: &mut [u32], context: ContextId) -> Result<u32, Refusal> {
     // SAFETY: each pointer and its length are those of one slice, which outlives the call; the store's is
     // only read, and the scratch's is exclusive. Every `Query` is a door of the archive.
@@ -356,6 +398,11 @@ fn value(answer: Answer) -> Result<u32, Refusal> {
     Refusal::from_number(answer.refusal).map_or(Ok(answer.value), Err)
 }
 
+/// The value and the count.
+fn counted(answer: CountedAnswer) -> Result<(u32, u32), Refusal> {
+    Refusal::from_number(answer.refusal).map_or(Ok((answer.value, answer.merges)), Err)
+}
+
 fn entry(answer: EntryAnswer) -> Result<Option<u64>, Refusal> {
     match Refusal::from_number(answer.refusal) {
         Some(refusal) => Err(refusal),
@@ -404,7 +451,10 @@ mod tests {
             // SAFETY: as above.
             let answer =
                 unsafe { purse_add(words, length, at, SET_WORDS, cleared, SCRATCH_WORDS, 1, 1, 1, 1, 1, 1) };
-            assert_eq!(answer, Answer { refusal, value: 0 });
+            assert_eq!(answer, CountedAnswer { refusal, value: 0, merges: 0 });
+            // SAFETY: as above.
+            let answer = unsafe { purse_merge(words, length, cleared, SCRATCH_WORDS, 0, 1, 0) };
+            assert_eq!(answer, CountedAnswer { refusal, value: 0, merges: 0 });
         }
     }
 
@@ -468,6 +518,24 @@ mod tests {
                 )
             };
             assert_eq!(answer, FiguresAnswer { refusal, ..NO_FIGURES });
+            let mut output = [3; CONFLICT_WORDS];
+            // SAFETY: as above.
+            let answer = unsafe {
+                purse_why(
+                    words,
+                    store.len(),
+                    configs,
+                    SET_WORDS,
+                    at,
+                    SCRATCH_WORDS,
+                    stops.as_ptr(),
+                    stops.len(),
+                    output.as_mut_ptr(),
+                    output.len(),
+                )
+            };
+            let nothing = ReasonAnswer { refusal, reason: 0, state: 0, alternative: 0, context: 0 };
+            assert_eq!((answer, output), (nothing, [3; CONFLICT_WORDS]));
         }
     }
 

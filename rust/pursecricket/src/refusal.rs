@@ -3,7 +3,8 @@
 use std::error::Error;
 use std::fmt;
 
-/// Document 01's refusals of calls on a store and on a config set, in the order of checking.
+/// Document 01's refusals of calls on a store and on a config set, in the order of checking; of the last two the
+/// one that a call reaches first.
 #[derive(Clone, Copy, Debug, Eq, Hash, PartialEq)]
 #[non_exhaustive]
 pub enum Refusal {
@@ -23,8 +24,10 @@ pub enum Refusal {
     StateOutOfRange,
     /// A config with a new key for a set of 256.
     FullSet,
-    /// The call would end above 512 contexts or 2,048 pool entries.
+    /// The call would end above 512 contexts or 2,048 pool entries, and comes there before it is too much work.
     FullStore,
+    /// The call would count more than 65,536 merges, and comes there while there is room.
+    TooMuchWork,
 }
 
 impl Refusal {
@@ -40,6 +43,7 @@ impl Refusal {
             Refusal::StateOutOfRange => 5,
             Refusal::FullSet => 8,
             Refusal::FullStore => 6,
+            Refusal::TooMuchWork => 12,
         }
     }
 
@@ -56,6 +60,7 @@ impl Refusal {
             7 => Some(Refusal::ReadOnlySet),
             8 => Some(Refusal::FullSet),
             10 => Some(Refusal::TooManyStops),
+            12 => Some(Refusal::TooMuchWork),
             other => unreachable!("the library's contracts give no refusal {other} here"),
         }
     }
@@ -73,6 +78,7 @@ impl fmt::Display for Refusal {
             Refusal::StateOutOfRange => "a return state is too large to be stored",
             Refusal::FullSet => "the config set has no room",
             Refusal::FullStore => "the store has no room",
+            Refusal::TooMuchWork => "the merge is too much work",
         };
         write!(out, "refusal {}: {why}", self.number())
     }

@@ -90,14 +90,14 @@ fn keys_that_are_nearly_alike() {
             let other = Config::of(words);
             let outcome = add(&lent, &set_of(vec![base], true), other, &mut random);
             let inserted = (offset, bit) != (5, 31);
-            assert_eq!(outcome.reply, Reply::Added { inserted }, "bit {bit} of word {offset}");
+            assert_eq!(outcome.reply, Reply::Added { inserted, merges: 0 }, "bit {bit} of word {offset}");
         }
     }
     // Words that are no part of the key: context and reach.
     let base = config(7, 1, 1);
-    for other in [config(7, 1, 0), Config { reach: 1 << 31, ..base }] {
+    for (other, merges) in [(config(7, 1, 0), 1), (Config { reach: 1 << 31, ..base }, 0)] {
         let outcome = add(&lent, &set_of(vec![base], true), other, &mut random);
-        assert_eq!(outcome.reply, Reply::Added { inserted: false });
+        assert_eq!(outcome.reply, Reply::Added { inserted: false, merges });
     }
 }
 
@@ -114,8 +114,8 @@ fn keys_of_one_hash() {
             for k in [0, 1, 127, 254, 255, 256] {
                 let reply = add(&lent, &set, key(k), &mut random).reply;
                 let expected = match k {
-                    _ if k < count => Reply::Added { inserted: false },
-                    _ if count < 256 => Reply::Added { inserted: true },
+                    _ if k < count => Reply::Added { inserted: false, merges: 0 },
+                    _ if count < 256 => Reply::Added { inserted: true, merges: 0 },
                     _ => Reply::Refused(8),
                 };
                 assert_eq!(reply, expected, "key {k} of {count}");
@@ -173,7 +173,7 @@ fn refusals_in_their_order() {
             Some(at) => Reply::Refused([2, 1, 3, 7, 4][at]),
             None if known => Reply::Refused(6),
             None if full => Reply::Refused(8),
-            None => Reply::Added { inserted: true },
+            None => Reply::Added { inserted: true, merges: 0 },
         };
         assert_eq!(outcome.reply, expected, "faults {faults}");
     }
@@ -208,7 +208,7 @@ fn near_the_most_contexts() {
             assert_eq!(outcome.reply == Reply::Refused(6), room < 13, "room {room}");
             // What merges to a context that is there has room always.
             let again = Config { reach: 3, provenance: MARK, ..config(7, 1, left) };
-            assert_eq!(add(&lent, &set, again, &mut random).reply, Reply::Added { inserted: false });
+            assert_eq!(add(&lent, &set, again, &mut random).reply, Reply::Added { inserted: false, merges: 0 });
         }
     }
 }
@@ -241,7 +241,7 @@ fn a_full_set() {
         let held = set.configs[place];
         let context = narrow(random.below(store.count()));
         let known = add(&lent, &set, Config { context, ..held }, &mut random);
-        assert_eq!(known.reply, Reply::Added { inserted: false });
+        assert!(matches!(known.reply, Reply::Added { inserted: false, .. }));
         let new = add(&lent, &set, Config { state: held.state ^ 1 << 20, ..held }, &mut random);
         assert_eq!(new.reply, Reply::Refused(8));
         assert_eq!(new.set.len(), SET_WORDS);

@@ -1,6 +1,8 @@
 //! The safe face, by document 01's examples.
 
-use pursecricket::{ContextArena, ContextId, EMPTY_CONTEXT, EMPTY_RETURN_STATE, Refusal, ReturnState, raw};
+use pursecricket::{
+    ContextArena, ContextId, EMPTY_CONTEXT, EMPTY_RETURN_STATE, Merged, Refusal, ReturnState, raw,
+};
 
 #[test]
 fn a_fresh_arena() {
@@ -67,6 +69,7 @@ fn refusals_are_errors() {
         (Refusal::StateOutOfRange, 5),
         (Refusal::FullSet, 8),
         (Refusal::FullStore, 6),
+        (Refusal::TooMuchWork, 12),
     ];
     for (refusal, number) in numbers {
         assert_eq!(refusal.number(), number);
@@ -97,11 +100,11 @@ mod merges {
     fn with_the_empty_stack() {
         let mut arena = ContextArena::new();
         let single = chain(&mut arena, &[42]);
-        let merged = arena.merge(single, EMPTY_CONTEXT, false).expect("room");
+        let merged = arena.merge(single, EMPTY_CONTEXT, false).expect("room").context;
         let both = [(42, Some(EMPTY_CONTEXT)), (u64::MAX, Some(EMPTY_CONTEXT))];
         assert_eq!(entries(&arena, merged), both);
         assert_eq!(arena.has_empty_path(merged), Ok(true));
-        assert_eq!(arena.merge(single, EMPTY_CONTEXT, true), Ok(EMPTY_CONTEXT));
+        assert_eq!(arena.merge(single, EMPTY_CONTEXT, true), Ok(Merged { context: EMPTY_CONTEXT, merges: 1 }));
     }
 
     /// P7.
@@ -109,7 +112,7 @@ mod merges {
     fn a_shared_top_state() {
         let mut arena = ContextArena::new();
         let (left, right) = (chain(&mut arena, &[100, 7]), chain(&mut arena, &[200, 7]));
-        let merged = arena.merge(left, right, false).expect("room");
+        let merged = arena.merge(left, right, false).expect("room").context;
         assert_eq!(arena.len(merged), Ok(1));
         assert_eq!(arena.return_state(merged, 0), Ok(Some(ReturnState(7))));
         let beneath = arena.parent(merged, 0).expect("known").expect("a parent");
@@ -121,8 +124,8 @@ mod merges {
     fn the_empty_stack_beneath_a_top_state() {
         let mut arena = ContextArena::new();
         let (deep, shallow) = (chain(&mut arena, &[42, 7]), chain(&mut arena, &[7]));
-        assert_eq!(arena.merge(deep, shallow, true), Ok(shallow));
-        let merged = arena.merge(deep, shallow, false).expect("room");
+        assert_eq!(arena.merge(deep, shallow, true), Ok(Merged { context: shallow, merges: 2 }));
+        let merged = arena.merge(deep, shallow, false).expect("room").context;
         assert_eq!(arena.len(merged), Ok(1));
         let beneath = arena.parent(merged, 0).expect("known").expect("a parent");
         let both = [(42, Some(EMPTY_CONTEXT)), (u64::MAX, Some(EMPTY_CONTEXT))];

@@ -37,7 +37,7 @@ fn try_refused(store: &Lent, words: Vec<u32>, number: u32, random: &mut Random, 
     assert_eq!(outcome.reply, Reply::Refused(number), "{what}");
     let scratch = dirty_scratch(random);
     let replies = agree_on_all(&lent, random, &scratch, &what);
-    assert_eq!(replies, [Reply::Refused(number); 8], "{what}");
+    assert_eq!(replies, [Reply::Refused(number); 9], "{what}");
     try_words(store, words, random, what);
 }
 

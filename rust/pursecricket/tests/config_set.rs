@@ -3,11 +3,13 @@
 use std::collections::BTreeSet;
 
 use pursecricket::{
-    Alternative, AtnConfig, AtnConfigSet, ContextArena, ContextId, EMPTY_CONTEXT, Figures, Refusal,
+    Added, Alternative, AtnConfig, AtnConfigSet, ContextArena, ContextId, EMPTY_CONTEXT, Figures, Refusal,
     ReturnState, SemanticContextId, raw, unique_alt,
 };
 
 const MARK: u32 = 1 << 31;
+const INSERTED: Result<Added, Refusal> = Ok(Added { inserted: true, merges: 0 });
+const MERGED: Result<Added, Refusal> = Ok(Added { inserted: false, merges: 1 });
 
 /// Contexts 1 to `count`: that many states over context 0.
 fn arena_of(count: u32) -> ContextArena {
@@ -57,7 +59,7 @@ fn new_keys() {
     ];
     let mut set = AtnConfigSet::new();
     for (place, &config) in given.iter().enumerate() {
-        assert_eq!(set.add(config, &mut arena), Ok(true), "{place}");
+        assert_eq!(set.add(config, &mut arena), INSERTED, "{place}");
         assert_eq!(set.has_semantic_context(), place >= 3);
         assert!(set.configs().eq(given[..=place].iter().copied()));
     }
@@ -74,18 +76,18 @@ fn known_keys() {
     for full in [false, true] {
         let mut arena = arena_of(2);
         let mut set = AtnConfigSet::new_full_context(full);
-        assert_eq!(set.add(config(7, 1, 1), &mut arena), Ok(true));
+        assert_eq!(set.add(config(7, 1, 1), &mut arena), INSERTED);
         let mut second = config(7, 1, 2);
         second.reaches_into_outer_context = 9;
         second.suppress_precedence_filter();
-        assert_eq!(set.add(second, &mut arena), Ok(false));
-        let both = arena.merge(ContextId(1), ContextId(2), !full).expect("room");
+        assert_eq!(set.add(second, &mut arena), MERGED);
+        let both = arena.merge(ContextId(1), ContextId(2), !full).expect("room").context;
         assert_eq!(only(&set), AtnConfig { context: both, ..second });
         // Neither a smaller reach nor a config without the mark takes anything back.
         let mut third = config(7, 1, 0);
         third.reaches_into_outer_context = 3;
-        assert_eq!(set.add(third, &mut arena), Ok(false));
-        let all = arena.merge(both, EMPTY_CONTEXT, !full).expect("room");
+        assert_eq!(set.add(third, &mut arena), MERGED);
+        let all = arena.merge(both, EMPTY_CONTEXT, !full).expect("room").context;
         assert_eq!(only(&set), AtnConfig { context: all, ..second });
         assert_eq!(all == EMPTY_CONTEXT, !full);
     }
@@ -95,7 +97,7 @@ fn known_keys() {
 fn closed_sets() {
     let mut arena = arena_of(1);
     let mut set = AtnConfigSet::new();
-    assert_eq!(set.add(config(7, 1, 1), &mut arena), Ok(true));
+    assert_eq!(set.add(config(7, 1, 1), &mut arena), INSERTED);
     for _ in 0..2 {
         assert_eq!(set.close(&arena), Ok(()));
         assert_eq!(set.words()[..2], [1, 8]);
@@ -114,14 +116,14 @@ fn full_sets() {
     let mut arena = arena_of(1);
     let mut set = AtnConfigSet::new_full_context(true);
     for state in 0..256 {
-        assert_eq!(set.add(config(state, 1, 0), &mut arena), Ok(true));
+        assert_eq!(set.add(config(state, 1, 0), &mut arena), INSERTED);
     }
     assert_eq!(set.len(), 256);
     let before = set.clone();
     assert_eq!(set.add(config(256, 1, 0), &mut arena), Err(Refusal::FullSet));
     assert_eq!(set.add(config(256, 1, 9), &mut arena), Err(Refusal::UnknownContext));
     assert_eq!(set, before);
-    assert_eq!(set.add(config(255, 1, 1), &mut arena), Ok(false));
+    assert_eq!(set.add(config(255, 1, 1), &mut arena), MERGED);
     assert_eq!(set.configs().next_back(), Some(config(255, 1, 2)));
     assert_eq!(arena.len(ContextId(2)), Ok(2));
 }
@@ -131,14 +133,15 @@ fn full_sets() {
 fn a_full_store() {
     let mut arena = arena_of(511);
     let mut set = AtnConfigSet::new_full_context(true);
-    assert_eq!(set.add(config(7, 1, 1), &mut arena), Ok(true));
+    assert_eq!(set.add(config(7, 1, 1), &mut arena), INSERTED);
     let (before, store) = (set.clone(), arena.words().to_vec());
     let mut second = config(7, 1, 2);
     second.reaches_into_outer_context = 9;
     second.suppress_precedence_filter();
     assert_eq!(set.add(second, &mut arena), Err(Refusal::FullStore));
     assert_eq!((&set, arena.words()), (&before, &store[..]));
-    assert_eq!(set.add(AtnConfig { context: ContextId(1), ..second }, &mut arena), Ok(false));
+    let again = AtnConfig { context: ContextId(1), ..second };
+    assert_eq!(set.add(again, &mut arena), Ok(Added { inserted: false, merges: 0 }));
     assert_eq!(only(&set), AtnConfig { context: ContextId(1), ..second });
 }
 
@@ -148,10 +151,10 @@ fn another_arena() {
     let (mut large, mut small) = (arena_of(3), arena_of(2));
     let mut set = AtnConfigSet::new();
     assert_eq!(set.add(config(7, 1, 4), &mut large), Err(Refusal::UnknownContext));
-    assert_eq!(set.add(config(7, 1, 3), &mut large), Ok(true));
+    assert_eq!(set.add(config(7, 1, 3), &mut large), INSERTED);
     assert_eq!(set.add(config(8, 1, 1), &mut small), Err(Refusal::UnsoundSet));
     assert_eq!(set.close(&small), Err(Refusal::UnsoundSet));
-    assert_eq!(set.add(config(8, 1, 1), &mut large), Ok(true));
+    assert_eq!(set.add(config(8, 1, 1), &mut large), INSERTED);
     assert_eq!(set.len(), 2);
 }
 
@@ -176,10 +179,10 @@ fn verdicts() {
     let one = Some(Alternative(1));
     assert_eq!(said(&set, &arena, &[]), Ok((None, None, true, true, true)));
     for alt in [2, 1] {
-        assert_eq!(set.add(config(7, alt, 1), &mut arena), Ok(true));
+        assert_eq!(set.add(config(7, alt, 1), &mut arena), INSERTED);
     }
     assert_eq!(said(&set, &arena, &[]), Ok((None, one, true, true, true)));
-    assert_eq!(set.add(config(8, 2, 1), &mut arena), Ok(true));
+    assert_eq!(set.add(config(8, 2, 1), &mut arena), INSERTED);
     let before = (set.clone(), arena.words().to_vec());
     assert_eq!(said(&set, &arena, &[8, 9]), Ok((None, None, false, false, false)));
     assert_eq!(said(&set, &arena, &[8, 7, 8]), Ok((None, None, false, false, true)));
@@ -200,7 +203,7 @@ fn subsets_and_figures() {
         (Ok(vec![]), Ok(alts(&[])))
     );
     for (state, alt, context) in [(8, 5, 1), (7, 2, 2), (7, u32::MAX, 1), (7, 0, 2), (8, 3, 2)] {
-        assert_eq!(set.add(config(state, alt, context), &mut arena), Ok(true));
+        assert_eq!(set.add(config(state, alt, context), &mut arena), INSERTED);
     }
     let subsets = vec![alts(&[5]), alts(&[0, 2]), alts(&[u32::MAX]), alts(&[3])];
     assert_eq!(set.conflicting_alt_subsets(&arena), Ok(subsets));
@@ -248,7 +251,7 @@ fn border_alternatives() {
     for alt in [0, u32::MAX] {
         let mut set = AtnConfigSet::new();
         for state in [0, u32::MAX] {
-            assert_eq!(set.add(config(state, alt, 1), &mut arena), Ok(true));
+            assert_eq!(set.add(config(state, alt, 1), &mut arena), INSERTED);
         }
         let only = Some(Alternative(alt));
         assert_eq!(said(&set, &arena, &[0]), Ok((only, only, false, true, false)));
@@ -261,7 +264,7 @@ fn border_alternatives() {
 fn refused_verdicts() {
     let (mut large, small) = (arena_of(3), arena_of(2));
     let mut set = AtnConfigSet::new();
-    assert_eq!(set.add(config(7, 1, 3), &mut large), Ok(true));
+    assert_eq!(set.add(config(7, 1, 3), &mut large), INSERTED);
     let verdict = |arena, stops: &[u32]| set.has_sll_conflict_terminating_prediction(arena, stops);
     assert_eq!(verdict(&large, &[7; raw::MOST_STOPS]), Ok(true));
     assert_eq!(verdict(&large, &[7; raw::MOST_STOPS + 1]), Err(Refusal::TooManyStops));

@@ -5,7 +5,7 @@ use std::collections::BTreeSet;
 use oracle::generate::{self, Made};
 use oracle::prediction::driver::Machine;
 use oracle::record::{Config, Kinds, Mode, Record, split};
-use oracle::reply::{Reply, Verdict};
+use oracle::reply::{Reason, Reply, Verdict};
 use pursecricket::{
     Alternative, AtnConfig, AtnConfigSet, ContextArena, ContextId, Refusal, ReturnState, SemanticContextId,
 };
@@ -15,20 +15,27 @@ struct Port {
     arena: ContextArena,
     set: AtnConfigSet,
     stops: Vec<u32>,
+    /// Merges that the last call counted.
+    merges: u32,
 }
 
 impl Port {
     fn new() -> Self {
         let set = AtnConfigSet::new_full_context(true);
-        Port { arena: ContextArena::new(), set, stops: Vec::new() }
+        Port { arena: ContextArena::new(), set, stops: Vec::new(), merges: 0 }
     }
 
     fn call(&mut self, record: &Record) -> Result<Reply, Refusal> {
-        let Port { arena, set, stops } = self;
+        let Port { arena, set, stops, merges } = self;
+        *merges = 0;
         let context = match *record {
             Record::Singleton { parent, state } => arena.singleton(ContextId(parent), ReturnState(state)),
             Record::Merge { left, right, mode } => {
-                arena.merge(ContextId(left), ContextId(right), mode == Mode::Wildcard)
+                let merged = arena.merge(ContextId(left), ContextId(right), mode == Mode::Wildcard);
+                merged.map(|merged| {
+                    *merges = merged.merges;
+                    merged.context
+                })
             }
             Record::Show { context } => return shown(arena, ContextId(context)).map(Reply::Entries),
             Record::NewSet { mode } => {
@@ -36,7 +43,9 @@ impl Port {
                 return Ok(Reply::NewSet);
             }
             Record::Add(config) => {
-                return set.add(given(config), arena).map(|inserted| Reply::Added { inserted });
+                let added = set.add(given(config), arena)?;
+                *merges = added.merges;
+                return Ok(Reply::Added { inserted: added.inserted });
             }
             Record::Close => return set.close(arena).map(|()| Reply::Closed),
             // A list that no verdict takes is not held.
@@ -46,12 +55,13 @@ impl Port {
                 return Ok(Reply::Stops(stops.len()));
             }
             Record::Verdict => return self.verdict().map(Reply::Verdict),
+            Record::Why => return set.why(arena, stops).map(|why| Reply::Reason(said(why))),
         };
         context.map(|context| Reply::Context(context.0))
     }
 
     fn verdict(&self) -> Result<Verdict, Refusal> {
-        let Port { arena, set, stops } = self;
+        let Port { arena, set, stops, .. } = self;
         // Subsets have no call yet: they are as many as pairs of state and context.
         let places: BTreeSet<(u32, ContextId)> =
             set.configs().map(|config| (config.state, config.context)).collect();
@@ -77,6 +87,18 @@ fn given(config: Config) -> AtnConfig {
         semantic_context: SemanticContextId(config.semantic),
         reaches_into_outer_context: config.reach,
         semantic_provenance_and_flags: config.provenance,
+    }
+}
+
+fn said(why: pursecricket::Reason) -> Reason {
+    match why {
+        pursecricket::Reason::Stop => Reason::Stop,
+        pursecricket::Reason::NoClash => Reason::NoClash,
+        pursecricket::Reason::One { state, alternative } => Reason::One { state, alternative: alternative.0 },
+        pursecricket::Reason::Clash { state, context, alternatives } => {
+            let alternatives = alternatives.into_iter().map(|alternative| alternative.0).collect();
+            Reason::Clash { state, context: context.0, alternatives }
+        }
     }
 }
 
@@ -109,6 +131,7 @@ fn compare(made: &Made, kinds: Kinds, index: u64, tally: &mut Tally) {
         let theirs = machine.call(record).map_err(|refusal| u32::from(refusal.0));
         let ours = port.call(record).map_err(Refusal::number);
         assert_eq!(ours, theirs, "{}", what());
+        assert_eq!(port.merges, machine.merges_of_last_call(), "{}", what());
         if matches!(record, Record::NewSet { .. } | Record::Add(_) | Record::Close) {
             assert!(port.set.words() == machine.set_words(), "{}: the set", what());
         }
@@ -127,6 +150,14 @@ fn compare(made: &Made, kinds: Kinds, index: u64, tally: &mut Tally) {
 fn generated_scripts() {
     for index in 0..2_000 {
         compare(&generate::script(29, index, Kinds::Store), Kinds::Store, index, &mut Tally::default());
+    }
+}
+
+/// Merges at the ceiling on work and above it.
+#[test]
+fn generated_scripts_of_heavy_merges() {
+    for index in 0..24 {
+        compare(&generate::heavy_script(29, index, Kinds::All), Kinds::All, index, &mut Tally::default());
     }
 }
 

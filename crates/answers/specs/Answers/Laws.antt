@@ -5,6 +5,7 @@ use Rattle.words.specs.Refusals.{number}
 use Rattle.words.specs.declared.refusals.Refusal.{Refusal}
 use Rattle.store.specs.Calls.{refused}
 use Rattle.answers.specs.declared.structs.Answer.{Answer}
+use Rattle.answers.specs.declared.structs.CountedAnswer.{CountedAnswer}
 use Rattle.answers.specs.declared.structs.EntryAnswer.{EntryAnswer}
 use Rattle.sets.specs.Calls.{refused as notDone}
 use Rattle.groups.specs.Answers.{Answer as Alt, none, only}
@@ -17,7 +18,7 @@ use Rattle.answers.specs.declared.figuring.FiguresAnswer.{FiguresAnswer}
 use Rattle.answers.specs.FiguresAnswers.{figuresAnswerOf}
 use Rattle.answers.specs.VerdictAnswers.{altAnswerOf, verdictAnswerOf}
 use Rattle.answers.specs.SetAnswers.{setAnswerOf}
-use Rattle.answers.specs.Answers.{entryOf, answerOf}
+use Rattle.answers.specs.Answers.{entryOf, answerOf, withMerges}
 
 same-answers : (n m v u : ℕ) → n ≡ m → v ≡ u → _≡_ {A = Answer} (record { refusal = n; value = v }) (record { refusal = m; value = u })
 same-answers n m v u e g = rw (e, g)
@@ -36,10 +37,14 @@ module _ (f : Refusal) where
   unfolding entryOf
   refused-entry a n e v = same-entries (a .refusal) (number f) (a .found) 0 (a .value) 0 n e v
 
+  pub refused-counted : (a : CountedAnswer) → a .refusal ≡ number f → a .value ≡ 0 → a .merges ≡ 0 → a ≡ withMerges (answerOf (refused (number f))) 0
+  unfolding entryOf
+  refused-counted a n v m = rw (n, v, m)
+
 -- the same of a call on a set
-pub refused-set-answer : (f : Refusal) (a : Answer) → a .refusal ≡ number f → a .value ≡ 0 → a ≡ setAnswerOf (notDone (number f))
+pub refused-set-counted : (f : Refusal) (a : CountedAnswer) → a .refusal ≡ number f → a .value ≡ 0 → a .merges ≡ 0 → a ≡ withMerges (setAnswerOf (notDone (number f))) 0
 unfolding setAnswerOf
-refused-set-answer f a n v = same-answers (a .refusal) (number f) (a .value) 0 n v
+refused-set-counted f a n v m = rw (n, v, m)
 
 -- the same of a call on a set's subsets
 module _ (f : Refusal) where

@@ -10,7 +10,7 @@ use borrow.Author.Tests.{lt-ltb, le-ltb, leb-true, le-leb, lt-leb, ne-eqb}
 use Rattle.format.specs.Bytes.{u16At, u32At, u64At, wordsAt}
 use Rattle.format.specs.Payloads.{payloadOf, accepts}
 use Rattle.cases.specs.Numbers.{below?}
-use Rattle.format.specs.Format.{Record, singleton, merge, newSet, add, stops, verdict, show, close, Reading, found, ended, malformed}
+use Rattle.format.specs.Format.{Record, singleton, merge, newSet, add, stops, verdict, show, close, why, Reading, found, ended, malformed}
 use Rattle.format.specs.Format.{ifWell, configFrom, ifKind, payloadAt, recordAt, readAt}
 
 -- ---- a payload, by its kind
@@ -56,12 +56,16 @@ module _ (s : List ℕ) (p e : ℕ) where
   unfolding payloadAt
   payload-close = refl
 
+  pub payload-why : payloadAt s 9 p e ≡ found why e
+  unfolding payloadAt
+  payload-why = refl
+
 -- none of the kinds
 pub payload-other : (s : List ℕ) (k p e : ℕ) → (k ≡ 1 → ⊥) → (k ≡ 2 → ⊥) → (k ≡ 7 → ⊥) → (k ≡ 3 → ⊥) → (k ≡ 4 → ⊥) → (k ≡ 5 → ⊥)
-    → (k ≡ 6 → ⊥) → (k ≡ 8 → ⊥) → payloadAt s k p e ≡ malformed
+    → (k ≡ 6 → ⊥) → (k ≡ 8 → ⊥) → (k ≡ 9 → ⊥) → payloadAt s k p e ≡ malformed
 unfolding payloadAt
-payload-other s k p e a b c d f g h i =
-    rw (ne-eqb k 1 a, ne-eqb k 2 b, ne-eqb k 3 d, ne-eqb k 4 f, ne-eqb k 5 g, ne-eqb k 6 h, ne-eqb k 7 c, ne-eqb k 8 i)
+payload-other s k p e a b c d f g h i j =
+    rw (ne-eqb k 1 a, ne-eqb k 2 b, ne-eqb k 3 d, ne-eqb k 4 f, ne-eqb k 5 g, ne-eqb k 6 h, ne-eqb k 7 c, ne-eqb k 8 i, ne-eqb k 9 j)
 
 -- ---- a record, by its header
 
@@ -120,7 +124,8 @@ payload-onward P s k p e h =
     (onward-kind P (eqb k 6) _ _ h
     (onward-kind P (eqb k 7) _ _ h
     (onward-kind P (eqb k 8) _ _ h
-    tt)))))))
+    (onward-kind P (eqb k 9) _ _ h
+    tt))))))))
 
 -- past the place i, and within the script s
 abbrev Past : List ℕ → ℕ → ℕ → Type 0

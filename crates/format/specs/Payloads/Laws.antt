@@ -15,7 +15,7 @@ use Rattle.format.specs.Table.{variable, noKind, entry, entryAccepts}
 
 -- the code's table
 unfoldable pub table : List ℕ
-table = noKind ∷ 12 ∷ 9 ∷ 1 ∷ 24 ∷ variable ∷ 0 ∷ 4 ∷ 0 ∷ []
+table = noKind ∷ 12 ∷ 9 ∷ 1 ∷ 24 ∷ variable ∷ 0 ∷ 4 ∷ 0 ∷ 0 ∷ []
 
 -- a length is no mark
 unfoldable small : Payload → Bool
@@ -44,16 +44,16 @@ whole : agrees table payloads ≡ true
 unfolding agrees table payloads entry small
 whole = refl
 
-pub table-entry : (k : ℕ) → k < 9 → getD table k 0 ≡ entry (payloadOf k)
+pub table-entry : (k : ℕ) → k < 10 → getD table k 0 ≡ entry (payloadOf k)
 unfolding payloadOf table
 table-entry k h = agree-at table payloads whole k h .0
 
-table-small : (k : ℕ) → k < 9 → small (payloadOf k) ≡ true
+table-small : (k : ℕ) → k < 10 → small (payloadOf k) ≡ true
 unfolding payloadOf table
 table-small k h = agree-at table payloads whole k h .1
 
 -- past the table there is no kind
-pub unknown-kind : (k : ℕ) → 8 < k → payloadOf k ≡ none
+pub unknown-kind : (k : ℕ) → 9 < k → payloadOf k ≡ none
 unfolding payloadOf payloads
 unknown-kind k h = List·getD-eq-default payloads none h
 
@@ -71,7 +71,7 @@ module _ (n : ℕ) where
   kind-says : (k : ℕ) → accepts (payloadOf k) n ≡ entryAccepts (entry (payloadOf k)) n
   unfolding small
   kind-says k =
-      below? k 9
+      below? k 10
       (λ h. entry-says (payloadOf k) (table-small k h))
       (λ h. entry-says (payloadOf k) (ap small (unknown-kind k h)))
 

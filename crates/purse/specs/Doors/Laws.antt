@@ -1,18 +1,33 @@
 -- From what a call leaves to what its door leaves, and that a door's outcome is determined. Nothing here has to be believed.
-use mathlib.Core.Path.{_≡_, sym, ap, _∙_}
-use mathlib.Core.List.{List}
+use mathlib.Core.Path.{_≡_, refl, sym, ap, _∙_}
+use mathlib.Core.List.{List, []}
 use Prim.Native.Nat.{ℕ}
 use Rattle.store.specs.Calls.{Reply, Left, leaves, freshCall}
 use mathlib.Core.Bool.{Bool}
 use Rattle.verdicts.specs.Calls.{VerdictReply, VerdictLeft, verdictLeft}
 use Rattle.sets.specs.Calls.{SetReply, SetLeft, setLeft, freshSetCall}
-use Rattle.answers.specs.SetAnswers.{setNumberOf}
-use Rattle.purse.specs.Doors.{OpensSet, OpensVerdict, Opens}
-use Rattle.answers.specs.Answers.{numberOf}
+use Rattle.contexts.specs.Replies.{merged}
+use Rattle.contexts.specs.declared.merges.Merged.{Merged}
+use Rattle.contexts.specs.declared.merges.Merged.the-variants.{Number, Refused}
+use Rattle.configs.specs.Replies.{addedReply, mergesOf, addedLeft}
+use Rattle.configs.specs.declared.adding.Added.{Added}
+use Rattle.answers.specs.declared.structs.CountedAnswer.{CountedAnswer}
+use Rattle.answers.specs.SetAnswers.{setAnswerOf, setNumberOf}
+use Rattle.purse.specs.Doors.{OpensSet, OpensVerdict, Opens, OpensCounted, OpensSetCounted}
+use Rattle.answers.specs.Answers.{answerOf, withMerges, numberOf}
 
 -- a struct for the reply x beside the words that the call left
 pub door : {A : Type 0} (of : Reply → A) (a : A) (x : Reply) (w z : List ℕ) (l : Left) → a ≡ of x → leaves x w z ≡ l → Opens of l a w z
 door of a x w z l h e = (h ∙ ap (λ (o : Left). of (o .reply)) e, ap (λ (o : Left). o .store) e, ap (λ (o : Left). o .scratch) e)
+
+-- with the merges that a merge counts
+pub counted-door : (a : CountedAnswer) (r : Merged) (w z : List ℕ) (l : Left) → a ≡ withMerges (answerOf (merged r [] [] .reply)) (merged r [] [] .merges)
+    → merged r w z ≡ l → OpensCounted l a w z
+counted-door a (Number c n) w z l h e = rw (← e) (h, refl, refl)
+counted-door a (Refused f) w z l h e = rw (← e) (h, refl, refl)
+
+pub counted-determined : (x : Left) (a b : CountedAnswer) (w z v y : List ℕ) → OpensCounted x a w z → OpensCounted x b v y → (a ≡ b) × (w ≡ v) × (z ≡ y)
+counted-determined x a b w z v y p q = (p .0 ∙ sym (q .0), p .1 ∙ sym (q .1), p .2 ∙ sym (q .2))
 
 -- the same of a fresh store, where the number alone comes back
 pub fresh-door : (n : ℕ) (x : Reply) (v w : List ℕ) → n ≡ numberOf x → (x, v) ≡ freshCall w → (n ≡ numberOf (freshCall w .0)) × (v ≡ freshCall w .1)
@@ -27,6 +42,14 @@ door-determined of x a b w z v y p q = (p .0 ∙ sym (q .0), p .1 ∙ sym (q .1)
 pub set-door : {A : Type 0} (of : SetReply → A) (a : A) (x : SetReply) (w v z : List ℕ) (l : SetLeft) → a ≡ of x → setLeft x w v z ≡ l → OpensSet of l a w v z
 set-door of a x w v z l h e =
     (h ∙ ap (λ (o : SetLeft). of (o .reply)) e, ap (λ (o : SetLeft). o .store) e, ap (λ (o : SetLeft). o .set) e, ap (λ (o : SetLeft). o .scratch) e)
+
+pub set-counted-door : (a : CountedAnswer) (r : Added) (w v z : List ℕ) (l : SetLeft) → a ≡ withMerges (setAnswerOf (addedReply r)) (mergesOf r)
+    → addedLeft r w v z ≡ l → OpensSetCounted l a w v z
+set-counted-door a r w v z l h e = rw (← e) (h, refl, refl, refl)
+
+pub set-counted-determined : (x : SetLeft) (a b : CountedAnswer) (w v z u t y : List ℕ) → OpensSetCounted x a w v z → OpensSetCounted x b u t y
+    → (a ≡ b) × (w ≡ u) × (v ≡ t) × (z ≡ y)
+set-counted-determined x a b w v z u t y p q = (p .0 ∙ sym (q .0), p .1 ∙ sym (q .1), p .2 ∙ sym (q .2), p .3 ∙ sym (q .3))
 
 pub fresh-set-door : (n : ℕ) (x : SetReply) (u v : List ℕ) (f : Bool) → n ≡ setNumberOf x → (x, u) ≡ freshSetCall v f
     → (n ≡ setNumberOf (freshSetCall v f .0)) × (u ≡ freshSetCall v f .1)

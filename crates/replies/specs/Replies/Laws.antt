@@ -11,7 +11,10 @@ use Rattle.arena.specs.Store.{nodeAt}
 use Rattle.layout.specs.Layout.{scratchWords}
 use Rattle.layout.specs.Decode.{storeOf}
 use Rattle.store.specs.Admit.{cleared}
-use Rattle.store.specs.Calls.{done, Left, leaves, asked}
+use Rattle.store.specs.Calls.{Reply, done, Left, leaves, asked}
+use Rattle.contexts.specs.Replies.{merged}
+use Rattle.contexts.specs.declared.merges.Merged.{Merged}
+use Rattle.contexts.specs.declared.merges.Merged.the-variants.{Number as Counted, Refused as notMerged}
 use Rattle.store.specs.Asks.{Asks}
 use Rattle.store.specs.declared.inner.admit.Admitted.{Admitted}
 use Rattle.store.specs.declared.inner.admit.Admitted.the-variants.{Ready as ready, Refused as notReady}
@@ -66,6 +69,12 @@ module _ (b : List ℕ) (j : ℕ) (u : List ℕ) (a : Numbered) where
 pub replied-call : (b : List ℕ) (x : Left) (a : Numbered) (r : ℕ) (u w z : List ℕ) → leaves (numbered a) w z ≡ x
     → Wrote b 0 (lineOf [] (numbered a)) r u → Replied b [] x r u w z
 replied-call b x a r u w z e v = rw (← e) (record { wrote = v; store = refl; scratch = refl })
+
+-- the same of a merge, whose count no line has
+pub replied-merge : (b : List ℕ) (x : Left) (a : Merged) (n : Reply) (r : ℕ) (u w z : List ℕ) → merged a w z ≡ x → n ≡ merged a [] [] .reply
+    → Wrote b 0 (lineOf [] n) r u → Replied b [] x r u w z
+replied-merge b x (Counted c k) n r u w z e q v = rw (← e) (record { wrote = rw q at v; store = refl; scratch = refl })
+replied-merge b x (notMerged f) n r u w z e q v = rw (← e) (record { wrote = rw q at v; store = refl; scratch = refl })
 
 -- ---- the entries of a context
 

@@ -1,4 +1,5 @@
 // The calls on contexts, each with its reply laid out.
+use contexts::Merged;
 use interning::Numbered;
 use layout::SCRATCH_WORDS;
 use lines::inner::entries::lay_entries;
@@ -16,6 +17,7 @@ ghost use Rattle.store.specs.Calls.{asked, done};
 ghost use Rattle.interning.specs.Replies.{numbered};
 ghost use Rattle.interning.specs.SingletonCall.{singletonCall};
 ghost use Rattle.contexts.specs.MergeCall.{mergeCall};
+ghost use Rattle.contexts.specs.Replies.{merged};
 ghost use Rattle.lines.specs.Laid.{Wrote};
 ghost use Rattle.lines.specs.Lines.{entriesLine, lineBytes};
 ghost use Rattle.replies.specs.Replies.Laws.{Replied};
@@ -57,6 +59,16 @@ pub fn singleton(
     lay_numbered(out, answer)
 }
 
+// The answer to a merge without its count, which no line has.
+fn uncounted(answer: Merged) -> Numbered
+    ensures { λ r. ⌜ numbered r ≡ merged answer [] [] .reply ⌝ }
+{
+    match answer {
+        Merged::Number(context, _) => Numbered::Number(context),
+        Merged::Refused(refusal) => Numbered::Refused(refusal),
+    }
+}
+
 // Merges two contexts.
 pub fn merge(
     store: &mut [u32],
@@ -71,7 +83,7 @@ pub fn merge(
         r (now (out .exit)) (now (store .exit)) (now (scratch .exit)) ⌝ }
 {
     let answer = contexts::merge(store, scratch, left, right, wildcard);
-    lay_numbered(out, answer)
+    lay_numbered(out, uncounted(answer))
 }
 
 // Lays out the entries of a context, or the refusal.

@@ -39,7 +39,7 @@ fn lay_added(out: &mut [u8], answer: Added) -> usize
 {
     match answer {
         Added::Inserted => lay_number(out, b'A', 1),
-        Added::Merged => lay_number(out, b'A', 0),
+        Added::Merged(_) => lay_number(out, b'A', 0),
         Added::Refused(refusal) => lay_number(out, b'R', words::refusal_number(refusal)),
     }
 }

@@ -8,7 +8,7 @@ use Prim.Native.Nat.{ℕ, _<_}
 use lib.Dec.{eqb, ltb}
 use lib.ListN.{length}
 use borrow.Author.Tests.{eq-eqb, ne-eqb, eqb-true, eqb-false, ltb-true}
-use Rattle.cases.specs.Bools.{bool?, and-left, and-right}
+use Rattle.cases.specs.Bools.{bool?, never-both, and-left, and-right}
 use Rattle.cases.specs.Numbers.{two, never}
 use Rattle.arena.specs.Store.{Store, at}
 use Rattle.layout.specs.Layout.{storeWords, scratchWords, count as contexts}
@@ -16,9 +16,11 @@ use Rattle.layout.specs.Encode.{wordsOf}
 use Rattle.layout.specs.Ceilings.{Fits}
 use Rattle.encoding.specs.Decide.{sound, fits}
 use Rattle.encoding.specs.Decide.Laws.{fits-true}
+use Rattle.work.specs.Counted.{Outcome, refused as over}
+use Rattle.work.specs.Counted.Laws.{is-too-much}
 use Rattle.store.specs.Checks.{Check, unless, due}
 use Rattle.store.specs.Checks.Laws.{Clear, absent, unless-first, unless-next, due-leaves, refused-due, clear-of}
-use Rattle.store.specs.Calls.{refused, context, Left, zeros, refusal, wrongLength, unsoundStore, unknownContext, noRoom, made, Accepts}
+use Rattle.store.specs.Calls.{refused, context, Left, zeros, refusal, wrongLength, unsoundStore, unknownContext, noRoom, tooMuchWork, madeAfter, Accepts}
 
 -- ---- two outcomes that satisfy one contract are equal
 
@@ -87,12 +89,23 @@ zero-after w z cs go lw lz a h =
 
 -- ---- an accepted call
 
--- it has passed every check, and the number and the words are those that it made
-pub accepted : (w z : List ℕ) (cs : List Check) (x : ℕ × Store) (c : ℕ) (w′ : List ℕ) → Accepts (unless cs (refusal w z) (made x)) c w′
+-- it has passed every check
+passed-all : (w z : List ℕ) (cs : List Check) (n : ℕ) (x : ℕ × Store) (c : ℕ) (w′ : List ℕ) → Accepts (unless cs (refusal w z) (madeAfter n x)) c w′
+    → Clear cs × (unless cs (refusal w z) (madeAfter n x) ≡ madeAfter n x)
+passed-all w z cs n x c w′ a =
+    clear-of (refusal w z) (madeAfter n x) (λ m o. o .reply ≡ refused m) (refusal-reply w z) cs (λ m g. not-context m c (sym (a .0) ∙ g))
+
+-- the number and the words are those that it made
+pub accepted : (w z : List ℕ) (cs : List Check) (n : ℕ) (x : ℕ × Store) (c : ℕ) (w′ : List ℕ) → Accepts (unless cs (refusal w z) (madeAfter n x)) c w′
     → Clear cs × (x .0 ≡ c) × (wordsOf (x .1) ≡ w′)
-accepted w z cs x c w′ a =
-    let k = clear-of (refusal w z) (made x) (λ n o. o .reply ≡ refused n) (refusal-reply w z) cs (λ n g. not-context n c (sym (a .0) ∙ g)) in
+accepted w z cs n x c w′ a =
+    let k = passed-all w z cs n x c w′ a in
     (k .0, same-context (x .0) c (ap (λ (o : Left). o .reply) (sym (k .1)) ∙ a .0), ap (λ (o : Left). o .store) (sym (k .1)) ∙ a .1)
+
+-- and the merges those that it counted
+pub accepted-merges : (w z : List ℕ) (cs : List Check) (n : ℕ) (x : ℕ × Store) (c : ℕ) (w′ : List ℕ) → Accepts (unless cs (refusal w z) (madeAfter n x)) c w′
+    → unless cs (refusal w z) (madeAfter n x) .merges ≡ n
+accepted-merges w z cs n x c w′ a = ap (λ (o : Left). o .merges) (passed-all w z cs n x c w′ a .1)
 
 -- what a check that does not hold says
 not-false : (b : Bool) → not b ≡ false → b ≡ true
@@ -118,3 +131,6 @@ module _ (w z : List ℕ) where
 
 pub has-room : (s : Store) → noRoom s .holds ≡ false → Fits s
 has-room s e = fits-true s (not-false (fits s) e)
+
+pub little-work : (o : Outcome ℕ) → tooMuchWork o .holds ≡ false → o ≡ over 12 → ⊥
+little-work o e q = never-both (is-too-much o q) e

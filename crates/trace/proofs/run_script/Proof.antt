@@ -7,7 +7,7 @@ use Prim.Native.Nat.{_-_}
 use lib.ListN.{length}
 use Rattle.lines.specs.Laid.Laws.{wrote-length}
 use Rattle.replies.specs.Replies.{Lent, lent}
-use Rattle.script.specs.Made.{Step, step-is}
+use Rattle.steps.specs.Made.{Step, step-is}
 use Rattle.trace.specs.Traced.Laws.{Stands, stands-start, stands-stopped, stands-forward, stands-next, stands-over}
 use Rattle.trace.proofs.run_script.Statement.{statement}
 use Rattle.trace.proofs.run_script.Tie as tie

@@ -4,12 +4,12 @@ use mathlib.Core.Bool.{Bool, true, false}
 use mathlib.Core.List.{List, [], _++_}
 use Prim.Native.Nat.{ℕ, suc, _+_, _<_, _≤_}
 use lib.ListN.{length}
-use Rattle.script.specs.Answers.{afterOf}
+use Rattle.steps.specs.Answers.{afterOf}
 use Rattle.replies.specs.Replies.{Lent, Printed}
-use Rattle.script.specs.Steps.{fresh, goes, over, stepOf, runOf}
-use Rattle.script.specs.Steps.Laws.{step-forward}
-use Rattle.script.specs.Made.{Step, Made, made-start, made-next, made-over, made-words}
-use Rattle.script.specs.declared.run.Ran.{Ran}
+use Rattle.steps.specs.Steps.{fresh, goes, over, stepOf, runOf}
+use Rattle.steps.specs.Steps.Laws.{step-forward}
+use Rattle.steps.specs.Made.{Step, Made, made-start, made-next, made-over, made-words}
+use Rattle.steps.specs.declared.run.Ran.{Ran}
 use Rattle.trace.specs.Traced.{Traced}
 
 -- some steps were made: the script s stands at place i with the words l

@@ -1,13 +1,13 @@
 -- The tests of the definition taken apart: the ways in which two states can stand, and the sides in order. Nothing here has to be believed.
-use mathlib.Core.Path.{_≡_, refl}
-use mathlib.Core.Bool.{Bool, true, false}
+use mathlib.Core.Path.{_≡_, refl, sym, ap, _∙_}
+use mathlib.Core.Bool.{Bool, true, false, false≢true}
 use Prim.Native.Nat.{ℕ, _<_, _≤_, min, max}
 use native.Mathlib.Omega.{arith}
 use native.Mathlib.Nat.{min-eq-left, min-eq-right, max-eq-left, max-eq-right}
-use borrow.Author.Tests.{lt-ltb, le-ltb}
+use borrow.Author.Tests.{eq-eqb, eqb-true, lt-ltb, le-ltb}
 use Rattle.cases.specs.Numbers.{below?}
 use Rattle.arena.specs.Store.{Node, push, Found, at, nowhere}
-use Rattle.work.specs.Counted.{Result, State, andThen, before, Merge, walk}
+use Rattle.work.specs.Counted.{Result, State, Outcome, done, refused, andThen, before, Merge, walk, tooMuch}
 
 abbrev pub result : Bool → ℕ → ℕ → ℕ → Result
 result m a b c = record { kind = m; smaller = a; larger = b; context = c }
@@ -41,3 +41,14 @@ module _ (inner : Merge) (t : State) (r p : ℕ) (n : Node) (q o : ℕ) (k : Nod
   pub walk-equal : r ≡ q → walk inner t (push r p n) (push q o k) ≡ andThen ℕ Node (inner t p o) (λ c u. before r c (walk inner u n k))
   unfolding walk
   walk-equal h = rw (le-ltb r q (omega arith), le-ltb q r (omega arith), walk)
+
+-- ---- too much work is refusal 12
+
+pub too-much : (o : Outcome ℕ) → tooMuch o ≡ true → o ≡ refused 12
+unfolding tooMuch
+too-much (done c t) e = absurd (false≢true e)
+too-much (refused n) e = ap refused (eqb-true n 12 e)
+
+pub is-too-much : (o : Outcome ℕ) → o ≡ refused 12 → tooMuch o ≡ true
+unfolding tooMuch
+is-too-much o e = ap tooMuch e

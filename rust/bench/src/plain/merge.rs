@@ -3,7 +3,7 @@
 use std::cmp::Ordering;
 
 use super::index::{add, array_hash, find, hash_of, singleton_hash};
-use super::results::{keep, kept, no_results};
+use super::results::{count, keep, kept, merges, no_results};
 use super::{
     ARRAY, DOLLAR, MOST_CONTEXTS, MOST_ENTRIES, PARENTS, RECORDS, SINGLETON, STATES, Scratch, Store, record,
 };
@@ -11,6 +11,9 @@ use super::{
 /// Parents and states of the entries under way, after the results kept.
 const STACK: usize = 7_936;
 const STACK_STATES: usize = STACK + 4_200;
+
+const FULL_STORE: u32 = 6;
+const TOO_MUCH_WORK: u32 = 12;
 
 #[derive(Clone, Copy)]
 struct Entry {
@@ -24,15 +27,22 @@ struct Merge<'a> {
     wildcard: bool,
 }
 
-/// The merge of two known contexts of an indexed store; where there is no room, what was made is taken out.
-pub fn merge(store: &mut Store, scratch: &mut Scratch, left: u32, right: u32, wildcard: bool) -> Option<u32> {
+/// The merge of two known contexts of an indexed store, and how many merges were counted; where there is no
+/// room or it is too much work, what was made is taken out.
+pub fn merge_indexed(
+    store: &mut Store,
+    scratch: &mut Scratch,
+    left: u32,
+    right: u32,
+    wildcard: bool,
+) -> Result<(u32, u32), u32> {
     let (count, pool) = (store[0] as usize, store[1] as usize);
     no_results(scratch);
     let merged = Merge { store, scratch, wildcard }.number(left, right, 0);
-    if merged.is_none() {
+    if merged.is_err() {
         cut_back(store, count, pool);
     }
-    merged
+    merged.map(|context| (context, merges(scratch)))
 }
 
 fn cut_back(store: &mut Store, count: usize, pool: usize) {
@@ -44,23 +54,22 @@ fn cut_back(store: &mut Store, count: usize, pool: usize) {
 }
 
 impl Merge<'_> {
-    fn number(&mut self, left: u32, right: u32, top: usize) -> Option<u32> {
+    fn number(&mut self, left: u32, right: u32, top: usize) -> Result<u32, u32> {
         if left == right {
-            return Some(left);
+            return Ok(left);
         }
-        if self.wildcard && (left == 0 || right == 0) {
-            return Some(0);
-        }
-        let sides = (left.min(right), left.max(right));
+        let sides = (self.wildcard, left.min(right), left.max(right));
         if let Some(known) = kept(self.scratch, sides) {
-            return Some(known);
+            return Ok(known);
         }
-        let merged = self.entries(left, right, top)?;
+        count(self.scratch).ok_or(TOO_MUCH_WORK)?;
+        let swallowed = self.wildcard && (left == 0 || right == 0);
+        let merged = if swallowed { 0 } else { self.entries(left, right, top)? };
         keep(self.scratch, sides, merged);
-        Some(merged)
+        Ok(merged)
     }
 
-    fn entries(&mut self, left: u32, right: u32, top: usize) -> Option<u32> {
+    fn entries(&mut self, left: u32, right: u32, top: usize) -> Result<u32, u32> {
         let (lefts, rights) = (self.len(left), self.len(right));
         let (mut l, mut r, mut end) = (0, 0, top);
         while l < lefts && r < rights {
@@ -83,7 +92,7 @@ impl Merge<'_> {
         for at in r..rights {
             end = self.push(end, self.entry(right, at));
         }
-        self.intern(top, end)
+        self.intern(top, end).ok_or(FULL_STORE)
     }
 
     fn len(&self, context: u32) -> usize {

@@ -10,6 +10,7 @@ mod tests;
 
 use check::check;
 use index::{find, hash_of, singleton_hash};
+use merge::merge_indexed;
 pub use sets::add;
 
 const MOST_CONTEXTS: usize = 512;
@@ -67,6 +68,30 @@ fn singleton_in(store: &mut Store, scratch: &mut Scratch, parent: u32, state: u6
     store[at..at + 3].copy_from_slice(&[SINGLETON, parent, state]);
     store[0] = count + 1;
     Ok(count)
+}
+
+/// The number of a merge, and how many merges were counted; or the number of a refusal.
+#[inline(never)]
+pub fn merge(
+    store: &mut [u32],
+    scratch: &mut [u32],
+    left: u32,
+    right: u32,
+    wildcard: bool,
+) -> Result<(u32, u32), u32> {
+    let Ok(store) = <&mut Store>::try_from(store) else {
+        return Err(2);
+    };
+    let Ok(scratch) = <&mut Scratch>::try_from(scratch) else {
+        return Err(2);
+    };
+    let answer = match check(store, scratch) {
+        false => Err(1),
+        true if left.max(right) >= store[0] => Err(4),
+        true => merge_indexed(store, scratch, left, right, wildcard),
+    };
+    scratch.fill(0);
+    answer
 }
 
 /// Kind, a and b.

@@ -2,7 +2,7 @@
 
 use super::check::{all_zero, check};
 use super::index::mix;
-use super::merge::merge;
+use super::merge::merge_indexed;
 use super::{Scratch, Store};
 
 const MOST_CONFIGS: usize = 256;
@@ -24,9 +24,14 @@ const BUCKETS: usize = 256;
 const HEADS: usize = 1_792;
 const LINKS: usize = HEADS + BUCKETS;
 
-/// Was the config inserted? Or the number of a refusal.
+/// Was the config inserted, and how many merges were counted? Or the number of a refusal.
 #[inline(never)]
-pub fn add(store: &mut [u32], set: &mut [u32], scratch: &mut [u32], config: Config) -> Result<bool, u32> {
+pub fn add(
+    store: &mut [u32],
+    set: &mut [u32],
+    scratch: &mut [u32],
+    config: Config,
+) -> Result<(bool, u32), u32> {
     let Ok(store) = <&mut Store>::try_from(store) else {
         return Err(2);
     };
@@ -41,7 +46,12 @@ pub fn add(store: &mut [u32], set: &mut [u32], scratch: &mut [u32], config: Conf
     answer
 }
 
-fn add_in(store: &mut Store, set: &mut Set, scratch: &mut Scratch, config: Config) -> Result<bool, u32> {
+fn add_in(
+    store: &mut Store,
+    set: &mut Set,
+    scratch: &mut Scratch,
+    config: Config,
+) -> Result<(bool, u32), u32> {
     if !check(store, scratch) {
         return Err(1);
     }
@@ -55,25 +65,26 @@ fn add_in(store: &mut Store, set: &mut Set, scratch: &mut Scratch, config: Confi
         return Err(4);
     }
     let Some(place) = find(set, scratch, &config, bucket(&config)) else {
-        return insert(set, config);
+        return insert(set, config).map(|()| (true, 0));
     };
     let wildcard = set[1] & FULL_CONTEXT == 0;
     let mut held = *config_at(set, place);
-    held[2] = merge(store, scratch, held[2], config[2], wildcard).ok_or(6u32)?;
+    let merges;
+    (held[2], merges) = merge_indexed(store, scratch, held[2], config[2], wildcard)?;
     held[4] = held[4].max(config[4]);
     held[5] |= config[5] & MARK;
     put(set, place, held);
-    Ok(false)
+    Ok((false, merges))
 }
 
-fn insert(set: &mut Set, config: Config) -> Result<bool, u32> {
+fn insert(set: &mut Set, config: Config) -> Result<(), u32> {
     let count = set[0] as usize;
     if count == MOST_CONFIGS {
         return Err(8);
     }
     set[0] += 1;
     put(set, count, config);
-    Ok(true)
+    Ok(())
 }
 
 fn put(set: &mut Set, place: usize, config: Config) {

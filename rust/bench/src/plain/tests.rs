@@ -6,7 +6,7 @@ use judge::random::Random;
 use judge::set_makers::{any_config, random_set};
 use judge::{Call, Config, Lent, LentSet, Reply, SetCall};
 
-use super::{add, singleton};
+use super::{add, merge, singleton};
 
 fn agree(words: Vec<u32>, scratch: &[u32], parent: u32, state: u64, what: &str) {
     let (mut store, mut after) = (words.clone(), scratch.to_vec());
@@ -60,7 +60,7 @@ fn agree_on_set(lent: &LentSet<'_>, scratch: &[u32], config: Config, what: &str)
     let (mut store, mut set) = (lent.store().words().to_vec(), lent.words().to_vec());
     let mut after = scratch.to_vec();
     let reply = match add(&mut store, &mut set, &mut after, config.words()) {
-        Ok(inserted) => Reply::Added { inserted },
+        Ok((inserted, merges)) => Reply::Added { inserted, merges },
         Err(refusal) => Reply::Refused(refusal),
     };
     let judged = lent.outcome(&SetCall::Add(config), scratch);
@@ -85,9 +85,32 @@ fn on_sound_sets() {
         let lent = Lent::new(store.words());
         let lent = LentSet::new(&lent, set.words());
         let reply = agree_on_set(&lent, &random.words(SCRATCH_WORDS), config, &format!("round {round}"));
-        merged += usize::from(reply == Reply::Added { inserted: false });
+        merged += usize::from(matches!(reply, Reply::Added { inserted: false, .. }));
     }
     assert!(merged > 400, "only {merged} merged");
+}
+
+/// Of both kinds, over stores with room and without.
+#[test]
+fn on_merges() {
+    let mut random = Random::new(7);
+    let (mut merged, mut refused) = (0, 0);
+    for round in 0..1_500 {
+        let store = if round % 4 == 0 { full_store(round) } else { random_store(round, 60) };
+        let [left, right] = [(); 2].map(|()| narrow(random.below(store.count() + 1)));
+        let (wildcard, scratch) = (random.chance(50), random.words(SCRATCH_WORDS));
+        let (mut words, mut after) = (store.words(), scratch.clone());
+        let reply = match merge(&mut words, &mut after, left, right, wildcard) {
+            Ok((context, merges)) => Reply::Merged { context, merges },
+            Err(refusal) => Reply::Refused(refusal),
+        };
+        let judged = Lent::new(store.words()).outcome(&Call::Merge { left, right, wildcard }, &scratch);
+        assert_eq!(reply, judged.reply, "round {round}");
+        assert!(words == judged.store && after == judged.scratch, "round {round}: words");
+        merged += usize::from(matches!(reply, Reply::Merged { merges: 2.., .. }));
+        refused += usize::from(reply == Reply::Refused(6));
+    }
+    assert!(merged > 100 && refused > 100, "{merged} merged, {refused} without room");
 }
 
 #[test]

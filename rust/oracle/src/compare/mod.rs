@@ -29,6 +29,8 @@ pub struct Plan {
     pub scripts: usize,
     /// Every word of up to so many records is asked too, before the generated scripts.
     pub words: usize,
+    /// Generated scripts with merges of much work, after the others.
+    pub heavy: usize,
 }
 
 /// What a comparison found.
@@ -49,7 +51,7 @@ pub fn compare(plan: &Plan) -> Outcome {
         0 => Vec::new(),
         records => alphabet::words(records, plan.kinds),
     };
-    let total = words.len() + plan.scripts;
+    let total = words.len() + plan.scripts + plan.heavy;
     let found = Mutex::new(Vec::new());
     let (next, stop) = (AtomicUsize::new(0), AtomicBool::new(false));
     let work = || {
@@ -80,8 +82,11 @@ fn script_at(plan: &Plan, words: &[Vec<u8>], index: usize) -> Found {
         let origin = format!("word {index} of up to {} records", plan.words);
         return Found { origin, script: word.clone() };
     }
-    let index = (index - words.len()) as u64;
-    let made = generate::script(plan.seed, index, plan.kinds);
+    let index = index - words.len();
+    let (index, made) = match index.checked_sub(plan.scripts) {
+        None => (index, generate::script(plan.seed, index as u64, plan.kinds)),
+        Some(heavy) => (heavy, generate::heavy_script(plan.seed, heavy as u64, plan.kinds)),
+    };
     let origin = format!("script {index} of seed {}, family '{}'", plan.seed, made.family);
     Found { origin, script: made.script }
 }

@@ -113,7 +113,7 @@ fn with_contexts(record: &Record, number: impl Fn(u32) -> u32) -> Record {
         Record::Merge { left, right, .. } => (*left, *right) = (number(*left), number(*right)),
         Record::Add(config) => config.context = number(config.context),
         Record::Show { context } => *context = number(*context),
-        Record::NewSet { .. } | Record::Stops(_) | Record::Verdict | Record::Close => {}
+        Record::NewSet { .. } | Record::Stops(_) | Record::Verdict | Record::Close | Record::Why => {}
     }
     record
 }

@@ -43,6 +43,7 @@ const SETS: &[&str] = &[
     "stops 7",
     "stops 8 8",
     "verdict",
+    "why",
     "show 1",
     "close",
     "hex 01 00 03 00 02",

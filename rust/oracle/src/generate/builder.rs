@@ -90,4 +90,14 @@ impl Builder {
         }
         whole.unwrap_or(0)
     }
+
+    /// The full merge of contexts, by halves: one after another would fill the pool.
+    pub fn union(&mut self, contexts: &[u32]) -> u32 {
+        if let [context] = contexts {
+            return *context;
+        }
+        let (low, high) = contexts.split_at(contexts.len() / 2);
+        let (low, high) = (self.union(low), self.union(high));
+        self.merge(low, high, Mode::Full)
+    }
 }

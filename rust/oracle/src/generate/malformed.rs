@@ -5,7 +5,7 @@ use crate::generate::{FAMILIES, stores};
 use crate::record::{Config, HEADER_BYTES, Kinds, MOST_BYTES, Mode, Record};
 
 /// A record of each kind that is well formed.
-fn one_of_each() -> [Record; 8] {
+fn one_of_each() -> [Record; 9] {
     let config = Config { state: 7, alternative: 1, context: 0, semantic: 0, reach: 0, provenance: 0 };
     [
         Record::Singleton { parent: 0, state: 7 },
@@ -16,6 +16,7 @@ fn one_of_each() -> [Record; 8] {
         Record::Verdict,
         Record::Show { context: 0 },
         Record::Close,
+        Record::Why,
     ]
 }
 
@@ -31,7 +32,7 @@ pub fn malformed(b: &mut Builder) {
 }
 
 fn bad_record(b: &mut Builder) -> Vec<u8> {
-    let record = b.rng.pick(&[0, 1, 2, 3, 4, 5, 6, 7]);
+    let record = b.rng.pick(&[0, 1, 2, 3, 4, 5, 6, 7, 8]);
     let mut bytes = encoded(&one_of_each()[record]);
     match b.rng.below(6) {
         // Cut short, in the header or in the payload; then only the end of the script makes it so.
@@ -51,7 +52,7 @@ fn bad_record(b: &mut Builder) -> Vec<u8> {
         _ => match b.kinds {
             Kinds::All => bytes = vec![1, 0, 3, 0, b.rng.between(2, 255) as u8],
             Kinds::Store => {
-                let of_sets = b.rng.pick(&[2, 3, 4, 5, 7]);
+                let of_sets = b.rng.pick(&[2, 3, 4, 5, 7, 8]);
                 bytes.clear();
                 one_of_each()[of_sets].encode(&mut bytes);
             }
@@ -68,9 +69,9 @@ fn wrong_length(b: &mut Builder, bytes: &mut Vec<u8>) {
 }
 
 /// Kinds with payload lengths at the borders: no such kind, a wrong length, and 0, 64 and 65 stop states.
-const BORDERS: [(u16, usize); 19] = [
+const BORDERS: [(u16, usize); 20] = [
     (0, 0),
-    (9, 0),
+    (10, 0),
     (1, 11),
     (1, 13),
     (2, 8),
@@ -88,6 +89,7 @@ const BORDERS: [(u16, usize); 19] = [
     (7, 3),
     (7, 5),
     (8, 1),
+    (9, 1),
 ];
 
 /// Each fault by itself, behind a good record: every record cut at every byte; and, with a good record

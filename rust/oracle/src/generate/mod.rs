@@ -2,6 +2,7 @@
 
 pub mod alphabet;
 mod builder;
+mod heavy;
 mod limits;
 pub mod malformed;
 mod rng;
@@ -15,7 +16,7 @@ use rng::Rng;
 /// A way to make scripts.
 pub struct Family {
     pub name: &'static str,
-    /// Scripts of this family in every round; those with none are made by name alone.
+    /// Scripts of this family in every round; those with none are heavy and have a count of their own.
     share: usize,
     /// Whether it needs the records of config sets.
     with_sets: bool,
@@ -33,8 +34,10 @@ pub const FAMILIES: &[Family] = &[
     family("ladders", 6, stores::ladders),
     family("both kinds", 8, stores::both_kinds),
     family("hash collisions", 3, stores::collisions),
-    family("many pairs", 1, stores::many_pairs),
-    family("too many pairs", 0, stores::too_many_pairs),
+    family("many pairs", 1, heavy::many_pairs),
+    family("too many pairs", 0, heavy::too_many_pairs),
+    family("most pairs", 0, heavy::most_pairs),
+    family("work ceiling", 0, heavy::work_ceiling),
     family("full contexts", 2, limits::full_contexts),
     family("full pool", 2, limits::full_pool),
     family("refused merges", 2, limits::refused_merges),
@@ -70,6 +73,12 @@ pub struct Made {
 /// The script of this seed and index; it uses no known record outside `kinds`.
 pub fn script(seed: u64, index: u64, kinds: Kinds) -> Made {
     script_of(family_at(index, |family| family.fits(kinds)), seed, index, kinds)
+}
+
+/// The same, of the heavy families, which take turns: a script of these takes the time of many others.
+pub fn heavy_script(seed: u64, index: u64, kinds: Kinds) -> Made {
+    let heavy: Vec<&Family> = FAMILIES.iter().filter(|family| family.share == 0).collect();
+    script_of(heavy[(index % heavy.len() as u64) as usize], seed, index, kinds)
 }
 
 /// The same, of the families about config sets alone.

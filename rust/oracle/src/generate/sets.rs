@@ -11,7 +11,8 @@ const MARK: u32 = 1 << 31;
 pub fn any_set_record(b: &mut Builder) {
     match b.rng.below(100) {
         0..60 => any_add(b),
-        60..80 => drop(b.put(Record::Verdict)),
+        60..72 => drop(b.put(Record::Verdict)),
+        72..80 => drop(b.put(Record::Why)),
         80..88 => any_stops(b, 4),
         88..97 => {
             let mode = b.any_mode();
@@ -19,6 +20,12 @@ pub fn any_set_record(b: &mut Builder) {
         }
         _ => drop(b.put(Record::Close)),
     }
+}
+
+/// The verdict, and why it is what it is.
+fn ask(b: &mut Builder) {
+    b.put(Record::Verdict);
+    b.put(Record::Why);
 }
 
 /// A config over few states, alternatives and ids, so that keys and groups meet.
@@ -55,7 +62,7 @@ pub fn small_sets(b: &mut Builder) {
     for _ in 0..b.rng.between(1, 25) {
         any_set_record(b);
     }
-    b.put(Record::Verdict);
+    ask(b);
 }
 
 /// One base config and copies that differ from it in one word, bit 31 or a context.
@@ -80,13 +87,13 @@ pub fn key_clashes(b: &mut Builder) {
         }
         b.add(config);
         if b.rng.chance(30) {
-            b.put(Record::Verdict);
+            ask(b);
         }
     }
     for context in 0..b.count() as u32 {
         b.show(context);
     }
-    b.put(Record::Verdict);
+    ask(b);
 }
 
 /// States with one and with more alternatives, over equal and different contexts, some of them stops.
@@ -103,9 +110,9 @@ pub fn verdicts(b: &mut Builder) {
                 b.add([state, alternative, context, semantic, 0, 0]);
             }
         }
-        b.put(Record::Verdict);
+        ask(b);
         any_stops(b, 4);
-        b.put(Record::Verdict);
+        ask(b);
     }
 }
 
@@ -122,13 +129,13 @@ pub fn full_set(b: &mut Builder) {
         b.add([number / alternatives, number % alternatives, context, 0, 0, 0]);
         number += 1;
     }
-    b.put(Record::Verdict);
+    ask(b);
     for extra in 0..3 {
         b.add([90_000 + extra, 1, 0, 0, 0, 0]);
         b.add([90_000, 1, 512, 0, 0, 0]);
         let (known, context) = (b.rng.below(250) as u32, b.any_context());
         b.add([known / alternatives, known % alternatives, context, 0, extra, MARK]);
-        b.put(Record::Verdict);
+        ask(b);
     }
 }
 
@@ -140,7 +147,7 @@ pub fn stop_lists(b: &mut Builder) {
         let states = (0..length).map(|_| b.rng.between(1, most) as u32).collect();
         b.put(Record::Stops(states));
         any_add(b);
-        b.put(Record::Verdict);
+        ask(b);
         if b.rng.chance(30) {
             let mode = b.any_mode();
             b.put(Record::NewSet { mode });
@@ -158,7 +165,7 @@ pub fn read_only(b: &mut Builder) {
         b.put(Record::Close);
         any_add(b);
         b.add([1, 1, 600, 0, 0, 0]);
-        b.put(Record::Verdict);
+        ask(b);
         if b.rng.chance(50) {
             b.put(Record::Close);
         }
@@ -166,7 +173,7 @@ pub fn read_only(b: &mut Builder) {
         b.put(Record::NewSet { mode });
     }
     any_add(b);
-    b.put(Record::Verdict);
+    ask(b);
 }
 
 /// Adds that merge and lack room: context, reach, mark and flags of the set must stay.
@@ -181,7 +188,7 @@ pub fn refused_adds(b: &mut Builder) {
         let alternative = b.rng.between(1, 2) as u32;
         b.add([7, alternative, left[depth], 0, 0, 0]);
         b.add([7, alternative, right[depth], 0, round, MARK]);
-        b.put(Record::Verdict);
+        ask(b);
         let next = b.count() as u32;
         b.show(next);
         if b.rng.chance(30) {

@@ -3,14 +3,18 @@
 //! A child of the runtime's file: it makes configs field by field, and takes contexts out again.
 #![warn(dead_code)]
 
+use std::collections::BTreeSet;
+
 use super::{
     AtnConfig, AtnConfigKey, AtnConfigSet, ContextArena, ContextId, EMPTY_RETURN_STATE, PredictionWorkspace,
-    SemanticContextId, all_subsets_conflict, all_subsets_equal, has_sll_conflict_terminating_prediction,
-    single_viable_alt,
+    SemanticContextId, all_subsets_conflict, all_subsets_equal, conflicting_alt_subsets,
+    has_sll_conflict_terminating_prediction, single_viable_alt,
 };
+use crate::counted::{Contexts, Counted, Entry, MOST_MERGES, Standing};
 use crate::record::{Config, Mode, Record};
 use crate::reply::{
-    BAD_STATE, NO_ROOM, READ_ONLY, Refusal, Reply, SET_FULL, TOO_MANY_STOPS, UNKNOWN_CONTEXT, Verdict,
+    BAD_STATE, NO_ROOM, READ_ONLY, Reason, Refusal, Reply, SET_FULL, TOO_MANY_STOPS, TOO_MUCH_WORK,
+    UNKNOWN_CONTEXT, Verdict,
 };
 
 pub const MOST_CONTEXTS: usize = 512;
@@ -27,7 +31,13 @@ pub struct Machine {
     pub(super) set: AtnConfigSet,
     workspace: PredictionWorkspace,
     stops: Vec<u32>,
+    /// The arena's first contexts, copied: a merge is counted there.
+    copy: Contexts,
+    counted: Counted,
 }
+
+/// Nothing merged.
+const NO_WORK: Counted = Counted { context: 0, merges: 0, walked: 0 };
 
 impl Default for Machine {
     fn default() -> Self {
@@ -42,6 +52,8 @@ impl Machine {
             set: AtnConfigSet::new_full_context(true),
             workspace: PredictionWorkspace::default(),
             stops: Vec::new(),
+            copy: Contexts::new(),
+            counted: NO_WORK,
         }
     }
 
@@ -65,14 +77,35 @@ impl Machine {
         self.arena.cached_hash(ContextId(context))
     }
 
-    /// Different merges of the last call, the outermost one included: its cache starts empty.
-    pub fn merges_of_last_call(&self) -> usize {
+    /// Different pairs that the runtime merged in the last call, the outermost one included: its cache starts
+    /// empty and keeps all.
+    pub fn pairs_of_last_call(&self) -> usize {
         self.workspace.merge_cache_len()
+    }
+
+    /// Merges that the last call counted; 0 where it merged nothing or was refused.
+    pub fn merges_of_last_call(&self) -> u32 {
+        self.counted.merges
+    }
+
+    /// Entries that these walked.
+    pub fn walked_by_last_call(&self) -> u64 {
+        self.counted.walked
+    }
+
+    /// Would a merge of known contexts be answered, and count at most so much? Nothing is made.
+    pub fn counts_at_most(&mut self, left: u32, right: u32, mode: Mode, most: u32) -> bool {
+        self.copy_new_contexts();
+        let spent = Standing { merges: MOST_MERGES - most, ..Standing::default() };
+        let counted = self.copy.merge_from(spent, left, right, mode == Mode::Wildcard);
+        self.copy.cut_back(self.contexts());
+        counted.is_ok()
     }
 
     /// Runs one record; a refusal leaves store, set and stop list as they were.
     pub fn call(&mut self, record: &Record) -> Result<Reply, Refusal> {
         self.workspace.reset();
+        self.counted = NO_WORK;
         match record {
             Record::Singleton { parent, state } => self.singleton(*parent, *state),
             Record::Merge { left, right, mode } => self.merge(*left, *right, *mode),
@@ -82,6 +115,7 @@ impl Machine {
             Record::Verdict => Ok(Reply::Verdict(self.verdict())),
             Record::Show { context } => self.show(*context),
             Record::Close => Ok(self.close()),
+            Record::Why => Ok(Reply::Reason(self.reason())),
         }
     }
 
@@ -99,11 +133,18 @@ impl Machine {
         let left = self.known(left)?;
         let right = self.known(right)?;
         let wildcard = mode == Mode::Wildcard;
-        self.within_ceilings(|machine| {
+        self.counting(left, right, wildcard, |machine| {
             let workspace = &mut machine.workspace;
             machine.arena.merge(left, right, wildcard, workspace)
         })
         .map(|context| Reply::Context(context.0))
+    }
+
+    /// The runtime's own merge of known contexts, with nothing judged or counted around it: to be timed.
+    pub fn merge_alone(&mut self, left: u32, right: u32, mode: Mode) -> u32 {
+        self.workspace.reset();
+        let (left, right) = (ContextId(left), ContextId(right));
+        self.arena.merge(left, right, mode == Mode::Wildcard, &mut self.workspace).0
     }
 
     fn new_set(&mut self, mode: Mode) -> Reply {
@@ -118,21 +159,28 @@ impl Machine {
         let context = self.known(config.context)?;
         let config = self.config(config, context);
         let place = self.set.config_index.get(&AtnConfigKey::from(&config)).copied();
-        if place.is_none() && self.set.len() == MOST_CONFIGS {
-            return Err(SET_FULL);
+        match place {
+            Some(at) => self.join(at, config),
+            None if self.set.len() == MOST_CONFIGS => Err(SET_FULL),
+            None => Ok(Reply::Added { inserted: self.set.add(config, &mut self.arena, &mut self.workspace) }),
         }
-        let before = place.map(|at| self.set.configs[at].clone());
+    }
+
+    /// Adds a config to the one of its key, which stands at `at`: their contexts are merged.
+    fn join(&mut self, at: usize, config: AtnConfig) -> Result<Reply, Refusal> {
+        let before = self.set.configs[at].clone();
         let flags = (self.set.has_semantic_context, self.set.dips_into_outer_context);
-        let added = self.within_ceilings(|machine| {
+        let wildcard = !self.set.full_context;
+        let merged = self.counting(before.context, config.context, wildcard, |machine| {
             let Machine { arena, set, workspace, .. } = machine;
-            set.add(config, arena, workspace)
+            assert!(!set.add(config, arena, workspace), "the key is known");
+            set.configs[at].context
         });
-        // Only a merge with a known config can lack room.
-        if let (Err(_), Some(at), Some(before)) = (added, place, before) {
+        if merged.is_err() {
             self.set.configs[at] = before;
             (self.set.has_semantic_context, self.set.dips_into_outer_context) = flags;
         }
-        added.map(|inserted| Reply::Added { inserted })
+        merged.map(|_| Reply::Added { inserted: false })
     }
 
     /// The runtime's own `add`, of a known context to an open set, with nothing judged around it: to be timed.
@@ -166,6 +214,48 @@ impl Machine {
         let stops = &self.stops;
         let is_stop = |state: usize| stops.iter().any(|&stop| narrow(state) == stop);
         has_sll_conflict_terminating_prediction(&self.set, is_stop)
+    }
+
+    /// Why the verdict is what it is: the runtime has no such answer, but its groups and its verdict.
+    fn reason(&self) -> Reason {
+        let reason = self.first_reason();
+        let settled = matches!(reason, Reason::Stop | Reason::Clash { .. });
+        assert_eq!(settled, self.verdict_alone(), "the runtime's own verdict goes with the reason");
+        reason
+    }
+
+    fn first_reason(&self) -> Reason {
+        let configs = self.set.configs();
+        if configs.iter().all(|config| self.stops.contains(&narrow(config.state))) {
+            return Reason::Stop;
+        }
+        let Some((config, group)) =
+            configs.iter().map(|config| (config, self.group_of(config))).find(|(_, group)| group.len() > 1)
+        else {
+            return Reason::NoClash;
+        };
+        if let Some(lone) = configs.iter().find(|config| self.is_alone(config)) {
+            return Reason::One { state: narrow(lone.state), alternative: narrow(lone.alt) };
+        }
+        Reason::Clash {
+            state: narrow(config.state),
+            context: config.context.0,
+            alternatives: group.into_iter().map(narrow).collect(),
+        }
+    }
+
+    /// The runtime's group of a config. Its groups come without state, context or order, so it is asked for this one alone.
+    fn group_of(&self, config: &AtnConfig) -> BTreeSet<usize> {
+        let alike = |other: &&AtnConfig| (other.state, other.context) == (config.state, config.context);
+        let members: Vec<AtnConfig> = self.set.configs().iter().filter(alike).cloned().collect();
+        let group = conflicting_alt_subsets(&members).remove(0);
+        assert!(self.set.conflicting_alt_subsets().contains(&group), "it is a group of the set");
+        group
+    }
+
+    /// Is this alternative the only one of its state?
+    fn is_alone(&self, config: &AtnConfig) -> bool {
+        self.set.configs().iter().all(|other| other.state != config.state || other.alt == config.alt)
     }
 
     /// Do all subsets of the set conflict?
@@ -209,6 +299,53 @@ impl Machine {
         config.reaches_into_outer_context = wide(words.reach);
         config.semantic_provenance_and_flags = words.provenance;
         config
+    }
+
+    /// Counts a merge in the copy, and runs the call that makes it in the arena unless it is too much work: both
+    /// give one number and the same contexts, or lack room.
+    fn counting(
+        &mut self,
+        left: ContextId,
+        right: ContextId,
+        wildcard: bool,
+        call: impl FnOnce(&mut Self) -> ContextId,
+    ) -> Result<ContextId, Refusal> {
+        self.copy_new_contexts();
+        let before = self.contexts();
+        let counted = self.copy.merge(left.0, right.0, wildcard);
+        if counted == Err(TOO_MUCH_WORK) {
+            return Err(TOO_MUCH_WORK);
+        }
+        let made = self.within_ceilings(call);
+        assert_eq!(counted.map(|counted| counted.context), made.map(|made| made.0), "number of the merge");
+        self.assert_copied(before);
+        self.counted = counted.unwrap_or(NO_WORK);
+        made
+    }
+
+    /// Contexts that other calls than merges made.
+    fn copy_new_contexts(&mut self) {
+        for context in self.copy.count()..self.contexts() {
+            let entries = self.arena_entries(context);
+            self.copy.push(&entries);
+        }
+    }
+
+    /// What a merge made in the arena, after so many contexts, is what it made in the copy.
+    fn assert_copied(&self, before: usize) {
+        assert_eq!((self.copy.count(), self.copy.pool()), (self.contexts(), self.entries()), "room taken");
+        for context in before..self.contexts() {
+            assert_eq!(self.copy.entries(narrow(context)), self.arena_entries(context), "context {context}");
+        }
+    }
+
+    fn arena_entries(&self, context: usize) -> Vec<Entry> {
+        let context = ContextId(narrow(context));
+        let entry = |index| match self.arena.entry(context, index) {
+            Some((parent, state)) => (state, parent.0),
+            None => unreachable!("an index below the length has an entry"),
+        };
+        (0..self.arena.len(context)).map(entry).collect()
     }
 
     /// Runs a call in the arena, which has no ceilings; where it ends above one, takes out what it made.

@@ -9,7 +9,7 @@ use std::fmt::Display;
 use judge::layout::{SCRATCH_WORDS, narrow};
 use judge::random::Random;
 use judge::{Call, Lent, Outcome, Reply, Store};
-use pursecricket::{ContextId, Refusal, ReturnState, raw};
+use pursecricket::{ContextId, Merged, Refusal, ReturnState, raw};
 
 /// What the port leaves of these words.
 pub fn run(call: &Call, store: &[u32], scratch: &[u32]) -> Outcome {
@@ -51,7 +51,9 @@ fn merge(
     right: u32,
     wildcard: bool,
 ) -> Result<Reply, Refusal> {
-    raw::merge(store, scratch, ContextId(left), ContextId(right), wildcard).map(context)
+    let Merged { context, merges } =
+        raw::merge(store, scratch, ContextId(left), ContextId(right), wildcard)?;
+    Ok(Reply::Merged { context: context.0, merges })
 }
 
 /// Runs a call and compares all that it leaves with the judge; answers what both left.

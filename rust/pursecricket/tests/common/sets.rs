@@ -6,7 +6,7 @@ use judge::layout::narrow;
 use judge::random::Random;
 use judge::set_makers::{MARK, any_config};
 use judge::{Config, ConfigSet, LentSet, Reply, SetCall, SetOutcome};
-use pursecricket::{Alternative, AtnConfig, ContextId, SemanticContextId, raw};
+use pursecricket::{Added, Alternative, AtnConfig, ContextId, SemanticContextId, raw};
 
 use super::assert_words;
 
@@ -27,7 +27,7 @@ pub fn run(call: &SetCall, store: &[u32], set: &[u32], scratch: &[u32]) -> SetOu
     let reply = match call {
         SetCall::Fresh { full_context } => raw::fresh_set(&mut set, *full_context).map(|()| Reply::Done),
         SetCall::Add(config) => raw::add(&mut store, &mut set, &mut scratch, given(config))
-            .map(|inserted| Reply::Added { inserted }),
+            .map(|Added { inserted, merges }| Reply::Added { inserted, merges }),
         SetCall::Close => raw::close(&store, &mut set, &mut scratch).map(|()| Reply::Done),
     };
     let reply = reply.unwrap_or_else(|refusal| Reply::Refused(refusal.number()));

@@ -5,7 +5,7 @@ use std::fmt::Display;
 use judge::layout::{CONFLICT_WORDS, MOST_STOPS, SUBSET_WORDS, narrow};
 use judge::random::Random;
 use judge::{Config, LentSet, Reply, VerdictCall, VerdictOutcome};
-use pursecricket::{Alternative, Figures, Refusal, raw};
+use pursecricket::{Alternative, Figures, Reason, Refusal, raw};
 
 use super::assert_words;
 
@@ -32,6 +32,10 @@ fn run(call: &VerdictCall, store: &[u32], set: &[u32], scratch: &[u32]) -> Verdi
             raw::conflicting_alts(&store, &set, &mut scratch, &mut output).map(|()| Reply::Done)
         }
         VerdictCall::Figures(stops) => raw::figures(&store, &set, &mut scratch, stops).map(figures),
+        VerdictCall::Why { stops, output: words } => {
+            output.clone_from(words);
+            raw::why(&store, &set, &mut scratch, stops, &mut output).map(|why| reason(why, &output))
+        }
     };
     let reply = reply.unwrap_or_else(|refusal| Reply::Refused(refusal.number()));
     VerdictOutcome { reply, store, set, scratch, output }
@@ -44,6 +48,20 @@ fn found(answer: Result<Option<Alternative>, Refusal>) -> Result<Reply, Refusal>
 fn figures(Figures { subsets, unique, viable, verdict }: Figures) -> Reply {
     let [unique, viable] = [unique, viable].map(|found| found.map(|alternative| alternative.0));
     Reply::Figures { subsets, unique, viable, verdict }
+}
+
+/// The alternatives of a clash are those in the output.
+fn reason(why: Reason, output: &[u32]) -> Reply {
+    Reply::Reason(match why {
+        Reason::Stop => judge::Reason::Stop,
+        Reason::NoClash => judge::Reason::NoClash,
+        Reason::One { state, alternative } => judge::Reason::One { state, alternative: alternative.0 },
+        Reason::Clash { state, context, alternatives } => {
+            let written = output[1..=alternatives.len()].iter().copied().map(Alternative);
+            assert!(written.eq(alternatives), "the alternatives are those written");
+            judge::Reason::Clash { state, context: context.0 }
+        }
+    })
 }
 
 /// Runs a call and compares all that it leaves with the judge; answers what both replied.
@@ -83,12 +101,13 @@ pub fn agree_on_one(lent: &LentSet<'_>, random: &mut Random, scratch: &[u32], wh
     agree(lent, &calls[random.below(calls.len())], scratch, what)
 }
 
-/// The calls that answer a question each, then those that write, over any words, and all figures at once.
+/// The calls that answer a question each, then those that write, over any words, all figures at once, and why.
 fn all_kinds(random: &mut Random, stops: Vec<u32>) -> Vec<VerdictCall> {
     let mut calls = every_kind(stops.clone()).to_vec();
     calls.push(VerdictCall::ConflictingAltSubsets(dirty_output(random, SUBSET_WORDS)));
     calls.push(VerdictCall::ConflictingAlts(dirty_output(random, CONFLICT_WORDS)));
-    calls.push(VerdictCall::Figures(stops));
+    calls.push(VerdictCall::Figures(stops.clone()));
+    calls.push(VerdictCall::Why { stops, output: dirty_output(random, CONFLICT_WORDS) });
     calls
 }
 

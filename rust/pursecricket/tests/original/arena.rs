@@ -38,7 +38,7 @@ fn merge_with_empty_preserves_full_context_empty_path() -> Result<(), Refusal> {
     let mut arena = ContextArena::new();
     let singleton = arena.singleton(EMPTY_CONTEXT, ReturnState(42))?;
 
-    let merged = arena.merge(singleton, EMPTY_CONTEXT, false)?;
+    let merged = arena.merge(singleton, EMPTY_CONTEXT, false)?.context;
 
     assert_eq!(arena.len(merged)?, 2);
     assert_eq!(arena.return_state(merged, 0)?, Some(ReturnState(42)));
@@ -53,7 +53,7 @@ fn wildcard_merge_collapses_to_empty() -> Result<(), Refusal> {
     let mut arena = ContextArena::new();
     let singleton = arena.singleton(EMPTY_CONTEXT, ReturnState(42))?;
 
-    assert_eq!(arena.merge(singleton, EMPTY_CONTEXT, true)?, EMPTY_CONTEXT);
+    assert_eq!(arena.merge(singleton, EMPTY_CONTEXT, true)?.context, EMPTY_CONTEXT);
     Ok(())
 }
 
@@ -65,8 +65,8 @@ fn merge_is_order_independent() -> Result<(), Refusal> {
     let left = arena.singleton(left_parent, ReturnState(7))?;
     let right = arena.singleton(right_parent, ReturnState(7))?;
 
-    let left_right = arena.merge(left, right, false)?;
-    let right_left = arena.merge(right, left, false)?;
+    let left_right = arena.merge(left, right, false)?.context;
+    let right_left = arena.merge(right, left, false)?.context;
 
     assert_eq!(left_right, right_left);
     assert_eq!(arena.len(left_right)?, 1);
@@ -89,7 +89,7 @@ fn array(arena: &mut ContextArena, entries: &[(ContextId, u64)]) -> Result<Conte
     let first = arena.singleton(parent, ReturnState(state))?;
     others.iter().try_fold(first, |merged, &(parent, state)| {
         let single = arena.singleton(parent, ReturnState(state))?;
-        arena.merge(merged, single, false)
+        arena.merge(merged, single, false).map(|merged| merged.context)
     })
 }
 

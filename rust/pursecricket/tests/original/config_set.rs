@@ -9,8 +9,8 @@ fn config_set_merges_context_ids() -> Result<(), Refusal> {
     let right = arena.singleton(EMPTY_CONTEXT, ReturnState(2))?;
     let mut set = AtnConfigSet::new_full_context(true);
 
-    assert!(set.add(AtnConfig::new(1, Alternative(1), left), &mut arena)?);
-    assert!(!set.add(AtnConfig::new(1, Alternative(1), right), &mut arena)?);
+    assert!(set.add(AtnConfig::new(1, Alternative(1), left), &mut arena)?.inserted);
+    assert!(!set.add(AtnConfig::new(1, Alternative(1), right), &mut arena)?.inserted);
     assert_eq!(set.len(), 1);
     let config = set.configs().next().expect("one config");
     assert_eq!(arena.len(config.context)?, 2);
@@ -27,9 +27,9 @@ fn config_set_keeps_distinct_prediction_provenance() -> Result<(), Refusal> {
     second.semantic_provenance_and_flags = 2;
     let mut set = AtnConfigSet::new();
 
-    assert!(set.add(first, &mut arena)?);
-    assert!(set.add(second, &mut arena)?);
-    assert!(!set.add(first, &mut arena)?);
+    assert!(set.add(first, &mut arena)?.inserted);
+    assert!(set.add(second, &mut arena)?.inserted);
+    assert!(!set.add(first, &mut arena)?.inserted);
     assert_eq!(set.len(), 2);
     Ok(())
 }

@@ -26,7 +26,7 @@ fn build_context(arena: &mut ContextArena, spec: ContextSpec) -> Result<ContextI
             let mut array = build_chain(arena, first)?;
             for return_states in others {
                 let context = build_chain(arena, return_states)?;
-                array = arena.merge(array, context, false)?;
+                array = arena.merge(array, context, false)?.context;
             }
             Ok(array)
         }
@@ -39,13 +39,13 @@ fn run_case(case: &GraphCase) -> Result<String, Refusal> {
         Scenario::Merge { left, right } => {
             let left = build_context(&mut arena, left)?;
             let right = build_context(&mut arena, right)?;
-            arena.merge(left, right, case.root_is_wildcard)?
+            arena.merge(left, right, case.root_is_wildcard)?.context
         }
         Scenario::NestedFullContext => {
             let child = arena.singleton(EMPTY_CONTEXT, ReturnState(8))?;
-            let right = arena.merge(EMPTY_CONTEXT, child, false)?;
+            let right = arena.merge(EMPTY_CONTEXT, child, false)?.context;
             let left = arena.singleton(right, ReturnState(8))?;
-            arena.merge(left, right, false)?
+            arena.merge(left, right, false)?.context
         }
     };
     render_dot(&arena, merged, case.root_is_wildcard)

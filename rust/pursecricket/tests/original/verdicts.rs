@@ -10,7 +10,7 @@ fn exact_context_conflict_proves_containment_without_shared_context_ids() -> Res
     let mut arena = ContextArena::new();
     let first = arena.singleton(EMPTY_CONTEXT, ReturnState(10))?;
     let second = arena.singleton(EMPTY_CONTEXT, ReturnState(20))?;
-    let containing = arena.merge(first, second, true)?;
+    let containing = arena.merge(first, second, true)?.context;
     let mut configs = AtnConfigSet::new();
     configs.add(AtnConfig::new(7, Alternative(1), containing), &mut arena)?;
     configs.add(AtnConfig::new(7, Alternative(2), first), &mut arena)?;
@@ -25,7 +25,7 @@ fn exact_context_conflict_joins_semantically_distinct_configs() -> Result<(), Re
     let mut arena = ContextArena::new();
     let first = arena.singleton(EMPTY_CONTEXT, ReturnState(10))?;
     let second = arena.singleton(EMPTY_CONTEXT, ReturnState(20))?;
-    let joined = arena.merge(first, second, true)?;
+    let joined = arena.merge(first, second, true)?.context;
     let mut configs = AtnConfigSet::new();
     for (context, predicate) in [(first, SemanticContextId(1)), (second, SemanticContextId(2))] {
         let config = AtnConfig::new(7, Alternative(1), context);

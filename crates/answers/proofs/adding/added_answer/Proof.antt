@@ -2,23 +2,28 @@
 use borrow.Author.Needs.{needs}
 use mathlib.Core.Path.{refl}
 use Rattle.answers.specs.SetAnswers.{setAnswerOf}
-use Rattle.answers.specs.Answers.Laws.{refused-set-answer}
+use Rattle.answers.specs.Answers.Laws.{refused-set-counted}
 use Rattle.answers.proofs.adding.added_answer.Statement.{statement}
 use Rattle.answers.proofs.adding.added_answer.Tie as tie
 
 returns : tie.Need-returns
 unfolding setAnswerOf
-returns c = rw (c .enum-told .given .1) refl
+returns c =
+    let enum-told = c .enum-told in
+    rw (enum-told .given .1) refl
 
 returns-2 : tie.Need-returns-2
 unfolding setAnswerOf
-returns-2 c = rw (c .enum-told2 .given .1) refl
+returns-2 c =
+    let answer = c .before .answer in
+    rw (answer .given .1) refl
 
 returns-3 : tie.Need-returns-3
 returns-3 c =
-    let answer = c .before .before .answer in
-    let given = c .refusal-answer in
-    rw (answer .given .1) (refused-set-answer (answer .given .0 .0) (given .result) (given .ensures .0) (given .ensures .1))
+    let refusal-counted = c .refusal-counted in
+    let answer2 = c .before .before .answer2 in
+    rw (answer2 .given .1)
+    (refused-set-counted (answer2 .given .0 .0) (refusal-counted .result) (refusal-counted .ensures .0) (refusal-counted .ensures .1) (refusal-counted .ensures .2))
 
 pub added-answer-spec : {M : Type 1} → statement M
 added-answer-spec =

@@ -1,6 +1,8 @@
 -- The chain says whether the key is there: the config is joined, or goes last.
 use borrow.Author.Needs.{needs}
 use mathlib.Core.Path.{_≡_, sym, ap, _∙_}
+use Prim.Native.Nat.{ℕ}
+use Rattle.sets.specs.Calls.{setLeftAfter}
 use Rattle.setcheck.specs.Keys.{placeOf}
 use Rattle.setcheck.specs.declared.inner.keys.KeyPlace.the-variants.{At}
 use Rattle.configs.specs.Replies.{addedReply}
@@ -22,14 +24,16 @@ insert-requires c κs =
 returns : tie.Need-returns
 returns c =
     let far = c .before .before .before .before .before .before .before .before .before .before .before .before in
+    let args = far .before .before .before .before .before .before .before .args in
     let pre = far .before .before .before .before .before .before .before .pre in
     let config-count = far .before .before .config-count in
     let enum-told = c .before .before .before .before .before .before .before .before .enum-told in
     let find-key = c .before .before .before .before .before .before .before .before .before .before .find-key in
     let insert = c .before .before .insert in
     let clear = c .before .before .before .before .before .before .clear in
-    add-last pre (config-count .result) (config-count .ensures) (sym (ap placeOf (enum-told .given .1)) ∙ find-key .ensures)
-    (addedReply (insert .result)) (insert .last .0) (insert .ensures) (clear .last .0) (clear .ensures)
+    ap (λ (n : ℕ). setLeftAfter n (addedReply (insert .result)) (args .store .now) (insert .last .0) (clear .last .0)) (insert .ensures .1)
+    ∙ add-last pre (config-count .result) (config-count .ensures) (sym (ap placeOf (enum-told .given .1)) ∙ find-key .ensures)
+    (addedReply (insert .result)) (insert .last .0) (insert .ensures .0) (clear .last .0) (clear .ensures)
 
 join-requires : tie.Need-join-requires
 join-requires c κs =

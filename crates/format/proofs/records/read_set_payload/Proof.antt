@@ -5,7 +5,7 @@ use Rattle.sets.specs.Config.{Config}
 use Rattle.format.specs.Format.{add, found}
 use Rattle.format.specs.Payloads.{payloadOf}
 use Rattle.format.specs.Payloads.Laws.{payload-3, payload-4, payload-5}
-use Rattle.format.specs.Format.Laws.{payload-add, payload-stops, payload-verdict, payload-close, payload-other}
+use Rattle.format.specs.Format.Laws.{payload-add, payload-stops, payload-verdict, payload-close, payload-why, payload-other}
 use Rattle.format.proofs.records.read_set_payload.Statement.{statement}
 use Rattle.format.proofs.records.read_set_payload.Tie as tie
 
@@ -28,8 +28,8 @@ returns-2 c =
     rw (c .before .if2 .taken)
     (ap (λ (x : Config). found (add x) (args .next)) (c .read-config .ensures) ∙ sym (payload-add (args .bytes .now) (args .at) (args .next)), tt)
 
-sub-t8 : tie.Need-sub-t8
-sub-t8 c =
+sub-t9 : tie.Need-sub-t9
+sub-t9 c =
     let pre = c .before .before .before .before .pre in
     omega (arith, pre .0 .ordered)
 
@@ -54,15 +54,21 @@ returns-5 c =
 
 returns-6 : tie.Need-returns-6
 returns-6 c =
-    let args = c .before .before .before .before .before .before .args in
-    let pre = c .before .before .before .before .before .before .pre in
-    let if1 = c .before .before .before .before .if1 in
-    let if2 = c .before .before .before .if2 in
-    let if3 = c .before .before .if3 in
+    let args = c .before .before .before .before .before .before .before .args in
+    (rw (c .if6 .taken) (sym (payload-why (args .bytes .now) (args .at) (args .next))), tt)
+
+returns-7 : tie.Need-returns-7
+returns-7 c =
+    let args = c .before .before .before .before .before .before .before .args in
+    let pre = c .before .before .before .before .before .before .before .pre in
+    let if1 = c .before .before .before .before .before .if1 in
+    let if2 = c .before .before .before .before .if2 in
+    let if3 = c .before .before .before .if3 in
+    let if4 = c .before .before .if4 in
     let no = pre .1 in (
       sym
           (payload-other (args .bytes .now) (args .kind) (args .at) (args .next) (no .no-singleton) (no .no-merge) (no .no-show)
-          (if1 .left) (if2 .left) (if3 .left) (c .before .if4 .left) (c .if5 .left)),
+          (if1 .left) (if2 .left) (if3 .left) (if4 .left) (c .before .if5 .left) (c .if6 .left)),
       tt,
     )
 
@@ -74,8 +80,9 @@ read-set-payload-spec =
     returns
     read-config-requires
     returns-2
-    sub-t8
+    sub-t9
     returns-3
     returns-4
     returns-5
-    returns-6)
+    returns-6
+    returns-7)

@@ -1,14 +1,13 @@
 -- The struct stands for the answer.
 use borrow.Author.Needs.{needs}
-use Rattle.answers.specs.Answers.{answerOf}
-use Rattle.purse.specs.Doors.Laws.{door}
+use Rattle.purse.specs.Doors.Laws.{counted-door}
 use Rattle.purse.proofs.making.purse_merge.Statement.{statement}
 use Rattle.purse.proofs.making.purse_merge.Tie as tie
 
 returns : tie.Need-returns
 returns c =
     let merge = c .before .before .before .before .before .merge in
-    door answerOf (c .number-answer .result) _ _ _ _ (c .number-answer .ensures) (merge .ensures)
+    counted-door (c .merged-answer .result) (merge .result) _ _ _ (c .merged-answer .ensures) (merge .ensures)
 
 pub purse-merge-spec : {M : Type 1} → statement M
 purse-merge-spec =

@@ -1,6 +1,6 @@
 -- By the answer of `replays`.
 use borrow.Author.Needs.{needs}
-use Rattle.script.specs.Replayed.{affirmed, denied}
+use Rattle.agreeing.specs.Agreeing.{affirmed, denied}
 use Rattle.replay.specs.Sample.{same, other}
 use Rattle.replay.proofs.sample.difference.Statement.{statement}
 use Rattle.replay.proofs.sample.difference.Tie as tie

@@ -6,9 +6,10 @@ use Prim.Native.Nat.{_-_}
 use borrow.Author.Tests.{not-true, not-false}
 use lib.ListN.{length}
 use Rattle.replies.specs.Replies.{Lent, lent}
-use Rattle.script.specs.Steps.Laws.{step-forward}
-use Rattle.script.specs.Made.{Step, step-is}
-use Rattle.script.specs.Replayed.{affirmed, denied, Told, told-start, told-not, told-within, told-next, told-over, told-all}
+use Rattle.steps.specs.Steps.Laws.{step-forward}
+use Rattle.steps.specs.Made.{Step, step-is}
+use Rattle.agreeing.specs.Agreeing.{affirmed, denied}
+use Rattle.script.specs.Replayed.{Told, told-start, told-not, told-within, told-next, told-over, told-all}
 use Rattle.script.proofs.replay.replays_over.Statement.{statement}
 use Rattle.script.proofs.replay.replays_over.Tie as tie
 

@@ -2,7 +2,7 @@
 use borrow.Author.Needs.{needs}
 use mathlib.Core.Path.{sym, ap, _∙_}
 use mathlib.Core.List.{List}
-use Rattle.store.specs.Calls.{refused}
+use Rattle.store.specs.Calls.{refused, leaves}
 use Rattle.store.specs.Admit.{short-store, short-scratch, unsound, sound-goes, cleared}
 use Rattle.store.proofs.inner.admit.open_store.Statement.{statement}
 use Rattle.store.proofs.inner.admit.open_store.Tie as tie
@@ -34,7 +34,7 @@ returns-4 c =
     let if3 = c .before .before .before .before .if3 in
     let v = rw (if3 .left) at (check-store .ensures) in
     λ go. unsound (args .store .now) (args .scratch .now) go (if1 .left) (if2 .left) (v .0) ∙ ap
-    (λ (x : List _). record { reply = refused 1; store = args .store .now; scratch = x })
+    (λ (x : List _). leaves (refused 1) (args .store .now) x)
     (sym (c .before .before .clear .ensures ∙ cleared (check-store .last .1 .0) (v .1)))
 
 pub open-store-spec : {M : Type 1} → statement M

@@ -1,0 +1,2 @@
+-- Bytes compared. Nothing here has to be believed.
+pub mod Agreeing

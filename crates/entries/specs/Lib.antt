@@ -1,0 +1,6 @@
+pub mod EntriesFrom
+pub mod Reading
+pub mod StackAhead
+pub mod StackEntry
+pub mod Laying
+pub mod Rest

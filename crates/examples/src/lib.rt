@@ -1,0 +1,1 @@
+// Scripts whose bytes are computed from the definitions: see specs/.

@@ -1,0 +1,4 @@
+// The cycle of merges. All of it is internal.
+mod cycle;
+
+pub use cycle::merge;

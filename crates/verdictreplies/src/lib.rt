@@ -1,0 +1,2 @@
+// The record that asks for the verdict: its call, and its reply as a line of bytes. All of it is internal: scripts are run by `steps`.
+pub mod inner;
