@@ -33,11 +33,13 @@ served : {C : Type 0} (c : C) → Served (context c)
 served c = (λ e. never (cc), λ e. never (cc))
 
 shared-room : Roomy (pureFrom first (λ j. beginner) calls)
-unfolding pureFrom stateAfter unless see heard singleS place placeE intern listed find same tree treeOf fits pool room size mergeS mergeT wild mergeE isMark nodeAt tooMuch counting counted deep step recall begins made walk before andThen interned completed keep
+unfolding pureFrom stateAfter unless see heard singleS place placeE intern listed find same tree treeOf fits pool room size mergeS mergeT wild mergeE
+    isMark nodeAt tooMuch counting counted deep step recall begins made walk before andThen interned completed keep
 shared-room = (served _, (served _, (served _, tt)))
 
 alone-room : Roomy (pureFrom first (λ j. beginner) (only 1 calls))
-unfolding pureFrom which stateAfter unless see heard singleS place placeE intern listed find same tree treeOf fits pool room size mergeS mergeT wild mergeE isMark nodeAt tooMuch counting counted deep step recall begins made walk before andThen interned completed keep
+unfolding pureFrom which stateAfter unless see heard singleS place placeE intern listed find same tree treeOf fits pool room size mergeS mergeT wild
+    mergeE isMark nodeAt tooMuch counting counted deep step recall begins made walk before andThen interned completed keep
 alone-room = (served _, (served _, tt))
 
 -- The second reader's first context is 2 beside the first reader, and 1 alone.

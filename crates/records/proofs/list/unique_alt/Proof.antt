@@ -245,7 +245,8 @@ module _ {M : Type 1} (𝓤 : URA M) (H : Heap 𝓤) (A : Atoms 𝓤) (W : Given
         first ! $ branches ! (load ! (from ! (stop !)) (look ! 12 refl))
         (λ h.
         assigns ! (agg ! (and-then ! (load ! (from ! (stop !)) (look ! 20 refl)) (no-more !))) (from ! (stop !)) (init ! 0 refl (tt, (record { fits = ga }, tt))) $
-        assigns ! (agg ! (and-then ! (lit ! tt) (and-then ! (load ! (from ! (stop !)) (look ! 0 refl)) (no-more !)))) (from ! (stop !)) (init ! 24 refl (typed (Only (record { 0 = a })) (only-made a ga))) $
+        assigns ! (agg ! (and-then ! (lit ! tt) (and-then ! (load ! (from ! (stop !)) (look ! 0 refl)) (no-more !)))) (from ! (stop !))
+        (init ! 24 refl (typed (Only (record { 0 = a })) (only-made a ga))) $
         returns-within ! Post refl (look ! 24 refl) $ forget ! 0 refl $ forget ! 6 refl $ forget ! 8 refl $ forget ! 12 refl $ forget ! 16 refl $ forget ! 18 refl $
         forget ! 20 refl $ forget ! 22 refl $ forget ! 24 refl $
         leaves (Only (record { 0 = a })) (only-made a ga) (sym (ap (λ (t : Bool). picked t a) (is-true (u .2) h)) ∙ answer))
