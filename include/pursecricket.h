@@ -43,12 +43,14 @@ typedef struct {
     uint32_t value;
 } purse_answer;
 
-/* A refusal's number; where that is 0, the value, and how many merges the call counted: each that is neither of equal contexts nor answered from
-   the first 1,024 results of the call. More than 65,536 are refused. */
+/* A refusal's number; where that is 0, the value, how many merges the call counted: each that is neither of equal contexts nor answered from
+   the first 1,024 results of the call, and how many contexts it made: the store's count after the call less the count before, 0 where all were
+   found. More than 65,536 merges are refused; a refusal's other fields are 0. */
 typedef struct {
     uint32_t refusal;
     uint32_t value;
     uint32_t merges;
+    uint32_t made;
 } purse_counted_answer;
 
 /* A refusal's number; where that is 0, 1 and the value, or 0 where there is none. */
@@ -102,10 +104,10 @@ typedef struct {
 /* Makes the words a store of context 0 alone; answers a refusal's number. */
 uint32_t purse_fresh(uint32_t *store, size_t store_len);
 
-/* The context of `state` on top of each stack of `parent`; the empty state answers 0. */
-purse_answer purse_singleton(uint32_t *store, size_t store_len, uint32_t *scratch, size_t scratch_len, uint32_t parent, uint64_t state);
+/* The context of `state` on top of each stack of `parent`, made (1) or found (0); the empty state answers 0. It counts no merges. */
+purse_counted_answer purse_singleton(uint32_t *store, size_t store_len, uint32_t *scratch, size_t scratch_len, uint32_t parent, uint64_t state);
 
-/* The context of the merge of `left` and `right`. */
+/* The context of the merge of `left` and `right`, and how many contexts were made for it, those beneath it included. */
 purse_counted_answer purse_merge(uint32_t *store, size_t store_len, uint32_t *scratch, size_t scratch_len, uint32_t left, uint32_t right,
                                  uint32_t mode);
 
@@ -127,7 +129,8 @@ purse_entry_answer purse_parent(const uint32_t *store, size_t store_len, uint32_
 /* Makes the words a config set without configs; answers a refusal's number. */
 uint32_t purse_fresh_set(uint32_t *set, size_t set_len, uint32_t mode);
 
-/* Adds a config, given by its six words: 1 where it was inserted, 0 where it was merged with the one that has its key. */
+/* Adds a config, given by its six words: 1 where it was inserted, 0 where it was merged with the one that has its key. An inserted one counts no
+   merges and makes no contexts. */
 purse_counted_answer purse_add(uint32_t *store, size_t store_len, uint32_t *set, size_t set_len, uint32_t *scratch, size_t scratch_len,
                                uint32_t state, uint32_t alternative, uint32_t context, uint32_t semantic, uint32_t reach, uint32_t provenance);
 

@@ -18,12 +18,14 @@ int main(void) {
     purse_fresh(store, PURSE_STORE_WORDS);
     purse_fresh_set(set, PURSE_SET_WORDS, PURSE_FULL);
 
-    purse_answer over = purse_singleton(store, PURSE_STORE_WORDS, scratch, PURSE_SCRATCH_WORDS, 0, 42);
+    purse_counted_answer over = purse_singleton(store, PURSE_STORE_WORDS, scratch, PURSE_SCRATCH_WORDS, 0, 42);
     purse_counted_answer both = purse_merge(store, PURSE_STORE_WORDS, scratch, PURSE_SCRATCH_WORDS, over.value, 0, PURSE_FULL);
     purse_answer size = purse_len(store, PURSE_STORE_WORDS, scratch, PURSE_SCRATCH_WORDS, both.value);
     purse_entry_answer state = purse_return_state(store, PURSE_STORE_WORDS, scratch, PURSE_SCRATCH_WORDS, both.value, 0);
     printf("42 over 0 is context %u; merged with 0 it is context %u, with %u entries, the first %llu; merges counted: %u\n", over.value, both.value,
            size.value, (unsigned long long)state.value, both.merges);
+    purse_counted_answer found = purse_singleton(store, PURSE_STORE_WORDS, scratch, PURSE_SCRATCH_WORDS, 0, 42);
+    printf("contexts made: %u and %u; asked for again, 42 over 0 is context %u, contexts made: %u\n", over.made, both.made, found.value, found.made);
 
     printf("state 7 with alternatives 1 and 2 in one context, inserted: %u", add(7, 1, over.value).value);
     printf(" %u", add(7, 2, over.value).value);
@@ -34,7 +36,7 @@ int main(void) {
     printf("why: %s in state %u and context %u, of %u alternatives: %u %u\n", why.reason == PURSE_CLASH ? "a clash" : "no clash", why.state, why.context,
            alternatives[0], alternatives[1], alternatives[2]);
     purse_counted_answer again = add(7, 2, both.value);
-    printf("alternative 2 again, in a wider context, merged: %u, merges counted: %u", again.value, again.merges);
+    printf("alternative 2 again, in a wider context, merged: %u, merges counted: %u, contexts made: %u", again.value, again.merges, again.made);
     printf("; verdict: %u\n", verdict());
 
     purse_entry_answer unique = purse_unique_alt(store, PURSE_STORE_WORDS, set, PURSE_SET_WORDS, scratch, PURSE_SCRATCH_WORDS);

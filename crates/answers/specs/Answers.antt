@@ -2,7 +2,7 @@
 pub mod Laws
 use mathlib.Core.Bool.{true, false}
 use Prim.Native.Nat.{ℕ}
-use Rattle.store.specs.Calls.{Reply, refused, done, context, count, state, holds, none}
+use Rattle.store.specs.Calls.{Left, Reply, refused, done, context, count, state, holds, none}
 use Rattle.answers.specs.declared.structs.Answer.{Answer}
 use Rattle.answers.specs.declared.structs.CountedAnswer.{CountedAnswer}
 use Rattle.answers.specs.declared.structs.EntryAnswer.{EntryAnswer}
@@ -28,6 +28,6 @@ answerOf r = record { refusal = entryOf r .refusal; value = entryOf r .value }
 abbrev pub numberOf : Reply → ℕ
 numberOf r = entryOf r .refusal
 
--- and how many merges were counted
-abbrev pub withMerges : Answer → ℕ → CountedAnswer
-withMerges a n = record { refusal = a .refusal; value = a .value; merges = n }
+-- of what a call leaves: with how many merges were counted, and how many contexts made
+abbrev pub countedOf : Left → CountedAnswer
+countedOf x = record { refusal = entryOf (x .reply) .refusal; value = entryOf (x .reply) .value; merges = x .merges; made = x .made }

@@ -1,12 +1,16 @@
 -- To believe: the same of a reply of a call on a set; inserted is 1 and merged 0.
 use Prim.Native.Nat.{ℕ}
-use Rattle.sets.specs.Calls.{SetReply, refused, done, added}
+use Rattle.sets.specs.Calls.{SetLeft, SetReply, refused, done, added}
 use Rattle.answers.specs.declared.structs.Answer.{Answer}
+use Rattle.answers.specs.declared.structs.CountedAnswer.{CountedAnswer}
 
 unfoldable pub setAnswerOf : SetReply → Answer
 setAnswerOf (refused n) = record { refusal = n; value = 0 }
 setAnswerOf done = record { refusal = 0; value = 0 }
 setAnswerOf (added k) = record { refusal = 0; value = k }
+
+abbrev pub setCountedOf : SetLeft → CountedAnswer
+setCountedOf x = record { refusal = setAnswerOf (x .reply) .refusal; value = setAnswerOf (x .reply) .value; merges = x .merges; made = x .made }
 
 abbrev pub setNumberOf : SetReply → ℕ
 setNumberOf r = setAnswerOf r .refusal

@@ -3,10 +3,10 @@ use crate::structs::CountedAnswer;
 use crate::structs::refusal_counted;
 use configs::Added;
 use configs::Settled;
+ghost use mathlib.Core.List.{[]};
 ghost use mathlib.Core.Path.{_≡_};
-ghost use Rattle.configs.specs.Replies.{addedReply, mergesOf, settled};
-ghost use Rattle.answers.specs.Answers.{withMerges};
-ghost use Rattle.answers.specs.SetAnswers.{setAnswerOf, setNumberOf};
+ghost use Rattle.configs.specs.Replies.{addedLeft, settled};
+ghost use Rattle.answers.specs.SetAnswers.{setCountedOf, setNumberOf};
 
 // The number for a set made or closed: 0 where it was.
 pub fn settled_number(answer: Settled) -> u32
@@ -18,20 +18,22 @@ pub fn settled_number(answer: Settled) -> u32
     }
 }
 
-// The answer to an added config: 1 inserted, 0 merged, after so many merges.
+// The answer to an added config: 1 inserted, 0 merged, after so many merges, with so many contexts made.
 pub fn added_answer(answer: Added) -> CountedAnswer
-    ensures { λ r. ⌜ r ≡ withMerges (setAnswerOf (addedReply answer)) (mergesOf answer) ⌝ }
+    ensures { λ r. ⌜ r ≡ setCountedOf (addedLeft answer [] [] []) ⌝ }
 {
     match answer {
         Added::Inserted => CountedAnswer {
             refusal: 0,
             value: 1,
             merges: 0,
+            made: 0,
         },
-        Added::Merged(merges) => CountedAnswer {
+        Added::Merged(work) => CountedAnswer {
             refusal: 0,
             value: 0,
-            merges: merges,
+            merges: work.merges,
+            made: work.made,
         },
         Added::Refused(refusal) => refusal_counted(refusal),
     }

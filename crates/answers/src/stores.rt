@@ -18,7 +18,7 @@ ghost use Rattle.interning.specs.Replies.{numbered};
 ghost use Rattle.queries.specs.Answers.{decided, counted, parentFound, stateFound};
 ghost use mathlib.Core.List.{[]};
 ghost use Rattle.contexts.specs.Replies.{merged};
-ghost use Rattle.answers.specs.Answers.{answerOf, entryOf, numberOf, withMerges};
+ghost use Rattle.answers.specs.Answers.{answerOf, entryOf, numberOf, countedOf};
 
 // The number for a store made afresh: 0 where it was.
 pub fn fresh_number(answer: Renewed) -> u32
@@ -30,30 +30,33 @@ pub fn fresh_number(answer: Renewed) -> u32
     }
 }
 
-// The answer to a merge: a context's number, after so many merges.
+// The answer to a merge: a context's number, after so many merges, with so many contexts made.
 pub fn merged_answer(answer: Merged) -> CountedAnswer
-    ensures { λ r. ⌜ r ≡ withMerges (answerOf (merged answer [] [] .reply)) (merged answer [] [] .merges) ⌝ }
+    ensures { λ r. ⌜ r ≡ countedOf (merged answer [] []) ⌝ }
 {
     match answer {
-        Merged::Number(context, merges) => CountedAnswer {
+        Merged::Number(context, work) => CountedAnswer {
             refusal: 0,
             value: context.0,
-            merges: merges,
+            merges: work.merges,
+            made: work.made,
         },
         Merged::Refused(refusal) => refusal_counted(refusal),
     }
 }
 
-// The answer with a context's number.
-pub fn number_answer(answer: Numbered) -> Answer
-    ensures { λ r. ⌜ r ≡ answerOf (numbered answer) ⌝ }
+// The answer with a context's number, and 1 where it was made.
+pub fn number_answer(answer: Numbered) -> CountedAnswer
+    ensures { λ r. ⌜ r ≡ countedOf (numbered answer [] []) ⌝ }
 {
     match answer {
-        Numbered::Number(context) => Answer {
+        Numbered::Number(context, made) => CountedAnswer {
             refusal: 0,
             value: context.0,
+            merges: 0,
+            made: made,
         },
-        Numbered::Refused(refusal) => refusal_answer(refusal),
+        Numbered::Refused(refusal) => refusal_counted(refusal),
     }
 }
 

@@ -18,12 +18,13 @@ pub struct EntryAnswer {
     pub value: u64,
 }
 
-// A refusal's number, 0 where there is none; then the value, and how many merges were counted.
+// A refusal's number, 0 where there is none; then the value, how many merges were counted, and how many contexts made.
 #[repr(C)]
 pub struct CountedAnswer {
     pub refusal: u32,
     pub value: u32,
     pub merges: u32,
+    pub made: u32,
 }
 
 // A refusal carries its number and nothing else.
@@ -47,13 +48,14 @@ pub fn refusal_entry(refusal: Refusal) -> EntryAnswer
     }
 }
 
-// The same of an answer that counts merges.
+// The same of an answer that counts.
 pub fn refusal_counted(refusal: Refusal) -> CountedAnswer
-    ensures { λ r. ⌜ (r .refusal ≡ number refusal) × (r .value ≡ 0) × (r .merges ≡ 0) ⌝ }
+    ensures { λ r. ⌜ (r .refusal ≡ number refusal) × (r .value ≡ 0) × (r .merges ≡ 0) × (r .made ≡ 0) ⌝ }
 {
     CountedAnswer {
         refusal: words::refusal_number(refusal),
         value: 0,
         merges: 0,
+        made: 0,
     }
 }

@@ -98,6 +98,11 @@ unfolding intern
 intern-grew s n =
     find? (listed n) s (λ c e. rw (e, intern) (grew-refl s)) (λ e. rw (e, intern) (listed n ∷ [], refl))
 
+-- one context at most is made of entries
+pub intern-one : (s : Store) (n : Node) → length (intern s n .1) ≤ suc (length s)
+unfolding intern
+intern-one s n = find? (listed n) s (λ c e. rw (e, intern) (omega arith)) (λ e. rw (e, intern) (omega arith))
+
 pub placeE-grew : (s : Store) (F : Forest) → Grew s (placeE s F .1)
 unfolding placeE
 placeE-grew s none = grew-refl s

@@ -18,7 +18,7 @@ use Rattle.sets.specs.Layout.{mostConfigs, configAt, configCount, flag}
 use Rattle.sets.specs.Sets.{sameKey, withConfigs, joinedAll, addTo}
 use Rattle.sets.specs.Words.{setWords, setOf}
 use Rattle.store.specs.Checks.{given, unless}
-use Rattle.sets.specs.Calls.{SetReply, refused, added, SetLeft, setLeftAfter, addWork, refusal}
+use Rattle.sets.specs.Calls.{SetReply, refused, added, SetLeft, addsAfter, addWork, refusal}
 use Rattle.setcheck.specs.Opened.{ReadySet}
 
 -- the config goes last
@@ -31,7 +31,7 @@ insertCall v x =
 unfoldable pub joinTo : List ℕ → List ℕ → Config → Outcome ℕ → ℕ × Store → SetLeft
 joinTo w v x o P =
     unless (tooMuchWork o ∷ noRoom (P .1) ∷ []) (refusal w v zeros)
-    (setLeftAfter (countOf o) (added 0) (wordsOf (P .1)) (setWords (withConfigs (setOf v) (joinedAll x (P .0) (setOf v .configs)))) zeros)
+    (addsAfter (countOf o) (storeOf w) (record { answer = 0; store = P .1; set = withConfigs (setOf v) (joinedAll x (P .0) (setOf v .configs)) }))
 
 abbrev pub joinCall : List ℕ → List ℕ → ℕ → Config → SetLeft
 joinCall w v i x =
@@ -46,7 +46,7 @@ addRest w v x =
     (given 8 (not (any (sameKey x) (setOf v .configs)) && leb mostConfigs (length (setOf v .configs)))
     ∷ tooMuchWork (addWork (storeOf w) (setOf v) x) ∷ noRoom (A .store) ∷ [])
     (refusal w v zeros)
-    (setLeftAfter (countOf (addWork (storeOf w) (setOf v) x)) (added (A .answer)) (wordsOf (A .store)) (setWords (A .set)) zeros)
+    (addsAfter (countOf (addWork (storeOf w) (setOf v) x)) (storeOf w) A)
 
 -- ---- what each part is given
 

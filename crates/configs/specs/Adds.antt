@@ -2,7 +2,8 @@
 use mathlib.Core.Path.{_≡_, refl, sym, ap, _∙_}
 use mathlib.Core.Bool.{Bool, true, false, not, _&&_}
 use mathlib.Core.List.{List, [], _∷_, _++_}
-use Prim.Native.Nat.{ℕ, _<_, _≤_}
+use Prim.Native.Nat.{ℕ, _-_, _<_, _≤_}
+use native.Mathlib.Omega.{arith}
 use lib.Dec.{leb, ltb}
 use lib.ListN.{length, replicate}
 use borrow.Author.Tests.{lt-ltb, le-ltb}
@@ -34,7 +35,7 @@ use Rattle.sets.specs.Held.{HeldSet}
 use Rattle.sets.specs.Sound.{sound-held}
 use Rattle.store.specs.Checks.{Check, given, unless}
 use Rattle.store.specs.Checks.Laws.{unless-first, unless-next, clear-goes, due-given}
-use Rattle.sets.specs.Calls.{SetReply, refused, added, SetLeft, setLeft, setLeftAfter, refusal, lentLengths, lentChecks, addWork, addChecks, addCall}
+use Rattle.sets.specs.Calls.{SetReply, refused, added, SetLeft, setLeft, addsAfter, refusal, lentLengths, lentChecks, addWork, addChecks, addCall}
 use Rattle.setcheck.specs.Keys.{hasKey, keyBucket, SoughtKey}
 use Rattle.setcheck.specs.Opened.{OpenedSet}
 use Rattle.configs.specs.Adding.{insertCall, joinTo, joinCall, addRest, Addable, Joinable}
@@ -63,7 +64,7 @@ module _ (s : Store) (S : Set) (x : Config) where
 unfoldable pub addWith : List ℕ → List ℕ → Bool → Bool → Outcome ℕ → Addition → SetLeft
 addWith w v known full o A =
     unless (given 8 (not known && full) ∷ tooMuchWork o ∷ noRoom (A .store) ∷ []) (refusal w v zeros)
-    (setLeftAfter (countOf o) (added (A .answer)) (wordsOf (A .store)) (setWords (A .set)) zeros)
+    (addsAfter (countOf o) (storeOf w) A)
 
 rest-with : (w v : List ℕ) (x : Config) → addRest w v x ≡ addWith w v (any (sameKey x) (setOf v .configs)) (leb mostConfigs (length (setOf v .configs)))
     (addWork (storeOf w) (setOf v) x) (addTo (storeOf w) (setOf v) x)
@@ -114,9 +115,10 @@ module _ {w v z : List ℕ} {x : Config} (a : Addable w v z x) where
     unfolding insertCall addWith inserted nothing refusal unless tooMuch countOf
     insert-with =
         let cs : List Config = setOf v .configs in
+        let no-more : length (storeOf w) - length (storeOf w) ≡ 0 = omega arith in
         bool? (leb mostConfigs (length cs))
         (λ f. rw f)
-        (λ f. rw (f, true-fits (storeOf w) (live .good .fits), ← live .words))
+        (λ f. rw (f, true-fits (storeOf w) (live .good .fits), no-more, ← live .words))
 
     pub add-last : nowhere ≡ last (hasKey v x) n → (r : SetReply) (u : List ℕ) → (r, u) ≡ insertCall v x → (y : List ℕ) → y ≡ replicate (length z) 0
         → setLeft r w u y ≡ addRest w v x
@@ -143,9 +145,7 @@ module _ (w v z u : List ℕ) (x : Config) where
       ∷ tooMuchWork (addWork (storeOf w) (setOf v) x) ∷ noRoom (addTo (storeOf w) (setOf v) x .store) ∷ []
 
   abbrev go : SetLeft
-  go =
-      let A = addTo (storeOf w) (setOf v) x in
-      setLeftAfter (countOf (addWork (storeOf w) (setOf v) x)) (added (A .answer)) (wordsOf (A .store)) (setWords (A .set)) zeros
+  go = addsAfter (countOf (addWork (storeOf w) (setOf v) x)) (storeOf w) (addTo (storeOf w) (setOf v) x)
 
   -- they leave the scratch 0, whatever it was
   rest-same : addRest w v x ≡ unless lastThree (refusal w v z) go

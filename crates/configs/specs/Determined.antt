@@ -11,7 +11,7 @@ use Rattle.store.specs.Calls.{refused as notMade}
 use Rattle.store.specs.Told.{number-tells}
 use Rattle.sets.specs.Config.{Config}
 use Rattle.sets.specs.Calls.{SetReply, refused, SetLeft, setLeft, freshSetCall, addCall, closeCall}
-use Rattle.configs.specs.Replies.{settled, addedReply, mergesOf, addedLeft}
+use Rattle.configs.specs.Replies.{settled, addedReply, workOf, addedLeft}
 use Rattle.configs.specs.declared.settle.Settled.{Settled}
 use Rattle.configs.specs.declared.settle.Settled.the-variants.{Done, Refused as NotSettled}
 use Rattle.configs.specs.declared.adding.Added.{Added}
@@ -28,7 +28,7 @@ settled-tells Done (NotSettled g) e = cc
 settled-tells (NotSettled f) Done e = cc
 settled-tells (NotSettled f) (NotSettled g) e = ap NotSettled (refusal-tells f g e)
 
-added-tells : (a b : Added) → addedReply a ≡ addedReply b → mergesOf a ≡ mergesOf b → a ≡ b
+added-tells : (a b : Added) → addedReply a ≡ addedReply b → workOf a ≡ workOf b → a ≡ b
 added-tells Inserted Inserted e m = refl
 added-tells Inserted (Merged k) e m = cc
 added-tells Inserted (Refused g) e m = cc
@@ -55,7 +55,7 @@ pub add-determined : (w v z : List ℕ) (x : Config) (a b : Added) (s s′ t t�
 add-determined w v z x a b s s′ t t′ u u′ p q =
     let e = determined (addedLeft a s t u) (addedLeft b s′ t′ u′) (addCall w v z x) p q in
     let o = alike (addedLeft a s t u) (addedLeft b s′ t′ u′) e in
-    (added-tells a b (ap (λ (o : SetLeft). o .reply) e) (ap (λ (o : SetLeft). o .merges) e), o .0, o .1, o .2)
+    (added-tells a b (ap (λ (o : SetLeft). o .reply) e) (ap (λ (o : SetLeft). record { merges = o .merges; made = o .made }) e), o .0, o .1, o .2)
 
 pub close-determined : (w v z : List ℕ) (a b : Settled) (s s′ t t′ u u′ : List ℕ)
     → setLeft (settled a) s t u ≡ closeCall w v z → setLeft (settled b) s′ t′ u′ ≡ closeCall w v z → (a ≡ b) × (s ≡ s′) × (t ≡ t′) × (u ≡ u′)

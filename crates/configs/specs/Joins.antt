@@ -2,16 +2,17 @@
 use mathlib.Core.Path.{_≡_, sym, ap, _∙_}
 use mathlib.Core.Bool.{true, false, not}
 use mathlib.Core.List.{List, [], _∷_}
-use Prim.Native.Nat.{ℕ, _<_}
+use Prim.Native.Nat.{ℕ, _-_, _<_}
 use native.Mathlib.Omega.{arith}
 use lib.ListN.{length, set, length-set}
 use lib.Seq.{getD-set-same, getD-set-other}
 use Rattle.arena.specs.Store.{Store}
 use Rattle.layout.specs.Layout.{count as contexts}
+use Rattle.layout.specs.Decode.{storeOf}
 use Rattle.layout.specs.Encode.{wordsOf}
 use Rattle.encoding.specs.Decide.{fits}
 use Rattle.work.specs.Counted.{Outcome, tooMuch, countOf}
-use Rattle.store.specs.Calls.{context, Left, leaves, leavesAfter, zeros, tooMuchWork, noRoom, refused as notMade}
+use Rattle.store.specs.Calls.{context, Left, leaves, leavesAfter, givesAfter, zeros, tooMuchWork, noRoom, refused as notMade}
 use Rattle.contexts.specs.MergeCall.Laws.{worked}
 use Rattle.interning.specs.Live.{Live, ready-live}
 use Rattle.sets.specs.Config.{Config}
@@ -27,7 +28,7 @@ use Rattle.sets.specs.Sound.{sound-held}
 use Rattle.sets.specs.Joined.{joined-length, semantic-joined, dips-joined, semantic-known, joined-configs}
 use Rattle.store.specs.Checks.{unless}
 use Rattle.store.specs.Checks.Laws.{unless-first, unless-next}
-use Rattle.sets.specs.Calls.{refused, added, setLeft, setLeftAfter, refusal}
+use Rattle.sets.specs.Calls.{refused, added, setLeft, setLeftAfter, addsAfter, refusal}
 use Rattle.setcheck.specs.Flags.{joinedFlags, joined-four}
 use Rattle.configs.specs.Writes.{putConfig, put-length, put-after, put-flags, put-count, put-here, put-other, head-config, head-other}
 use Rattle.configs.specs.Adding.{Joinable, joinTo}
@@ -39,7 +40,7 @@ module _ (w : List ℕ) (o : Outcome ℕ) (P : ℕ × Store) where
   unfolding worked
   over-is e = rw (e, worked)
 
-  pub made-is : tooMuch o ≡ false → fits (P .1) ≡ true → worked w o P ≡ leavesAfter (countOf o) (context (P .0)) (wordsOf (P .1)) zeros
+  pub made-is : tooMuch o ≡ false → fits (P .1) ≡ true → worked w o P ≡ givesAfter (countOf o) (storeOf w) P
   unfolding worked
   made-is e f = rw (e, f, worked)
 
@@ -52,37 +53,39 @@ module _ (w : List ℕ) (o : Outcome ℕ) (P : ℕ × Store) where
   worked? over made full = bool? (tooMuch o) over (λ e. bool? (fits (P .1)) (made e) (full e))
 
   module _ (w′ z′ : List ℕ) where
-    pub record MergeMade (c n : ℕ) : Type 0 where
+    pub record MergeMade (c n k : ℕ) : Type 0 where
       pub light : tooMuch o ≡ false
       pub room : fits (P .1) ≡ true
       pub number : c ≡ P .0
       pub merges : n ≡ countOf o
+      pub made : k ≡ length (P .1) - length (storeOf w)
       pub store : w′ ≡ wordsOf (P .1)
       pub scratch : z′ ≡ zeros
 
     -- a number is no refusal
-    not-made : (c n k : ℕ) → leavesAfter n (context c) w′ z′ ≡ leaves (notMade k) w zeros → ⊥
-    not-made c n k e =
-        let r : context c ≡ notMade k = ap (λ (l : Left). l .reply) e in
+    not-made : (c n k m : ℕ) → leavesAfter n k (context c) w′ z′ ≡ leaves (notMade m) w zeros → ⊥
+    not-made c n k m e =
+        let r : context c ≡ notMade m = ap (λ (l : Left). l .reply) e in
         let z : _≡_ {A = ℕ} 0 1 = cc in
         omega arith
 
-    pub merge-made : (c n : ℕ) → leavesAfter n (context c) w′ z′ ≡ worked w o P → MergeMade c n
-    merge-made c n e =
+    pub merge-made : (c n k : ℕ) → leavesAfter n k (context c) w′ z′ ≡ worked w o P → MergeMade c n k
+    merge-made c n k e =
         worked?
-        (λ t. absurd (not-made c n 12 (e ∙ over-is t)))
+        (λ t. absurd (not-made c n k 12 (e ∙ over-is t)))
         (λ t f.
-        let q : leavesAfter n (context c) w′ z′ ≡ leavesAfter (countOf o) (context (P .0)) (wordsOf (P .1)) zeros = e ∙ made-is t f in
+        let q : leavesAfter n k (context c) w′ z′ ≡ givesAfter (countOf o) (storeOf w) P = e ∙ made-is t f in
         let r : context c ≡ context (P .0) = ap (λ (l : Left). l .reply) q in
         record {
           light = t;
           room = f;
           number = cc;
           merges = ap (λ (l : Left). l .merges) q;
+          made = ap (λ (l : Left). l .made) q;
           store = ap (λ (l : Left). l .store) q;
           scratch = ap (λ (l : Left). l .scratch) q;
         })
-        (λ t f. absurd (not-made c n 6 (e ∙ full-is t f)))
+        (λ t f. absurd (not-made c n k 6 (e ∙ full-is t f)))
 
 -- ---- the flags
 
@@ -171,7 +174,7 @@ module _ {w v z : List ℕ} {i : ℕ} {x : Config} (j : Joinable w v z i x) wher
         let i : n ≡ k = cc in
         rw (i, ap (λ (l : Left). l .store) e, ap (λ (l : Left). l .scratch) e)
 
-    no-number : (n : ℕ) → leaves (notMade n) w′ z′ ≡ leavesAfter (countOf o) (context (P .0)) (wordsOf (P .1)) zeros → ⊥
+    no-number : (n : ℕ) → leaves (notMade n) w′ z′ ≡ givesAfter (countOf o) (storeOf w) P → ⊥
     no-number n e =
         let r : notMade n ≡ context (P .0) = ap (λ (l : Left). l .reply) e in
         let z : _≡_ {A = ℕ} 0 1 = cc in
@@ -184,13 +187,13 @@ module _ {w v z : List ℕ} {i : ℕ} {x : Config} (j : Joinable w v z i x) wher
         (λ t f. absurd (no-number n (e ∙ made-is w o P t f)))
         (λ t f. as-left n 6 (e ∙ full-is w o P t f) ∙ sym (full-joined t f))
 
-    pub join-done : (c k : ℕ) → leavesAfter k (context c) w′ z′ ≡ worked w o P → (y : Config) → y ≡ joined x c (configAt v i) → (u : List ℕ) → u ≡ putConfig v i y
-        → (n : ℕ) → n ≡ flagWord u → (b : ℕ) → b ≡ joinedFlags n x → setLeftAfter k (added 0) w′ (set u 1 b) z′ ≡ joinTo w v x o P
+    pub join-done : (c j k : ℕ) → leavesAfter j k (context c) w′ z′ ≡ worked w o P → (y : Config) → y ≡ joined x c (configAt v i) → (u : List ℕ) → u ≡ putConfig v i y
+        → (n : ℕ) → n ≡ flagWord u → (b : ℕ) → b ≡ joinedFlags n x → setLeftAfter j k (added 0) w′ (set u 1 b) z′ ≡ joinTo w v x o P
     unfolding joinTo unless
-    join-done c k e y ey u eu n en b eb =
-        let m = merge-made w o P w′ z′ c k e in
+    join-done c j k e y ey u eu n en b eb =
+        let m = merge-made w o P w′ z′ c j k e in
         let f : b ≡ joinedFlags (flagWord v) x = eb ∙ ap (λ (k : ℕ). joinedFlags k x) (en ∙ ap flagWord eu ∙ put-flags v i y) in
-        let go = setLeftAfter (countOf o) (added 0) (wordsOf (P .1)) (setWords (withConfigs S (joinedAll x (P .0) (S .configs)))) zeros in
-        rw (m .store, m .scratch, m .merges, eu, join-words (P .0) y (rw (m .number) at ey) b f)
+        let go = addsAfter (countOf o) (storeOf w) (record { answer = 0; store = P .1; set = withConfigs S (joinedAll x (P .0) (S .configs)) }) in
+        rw (m .store, m .scratch, m .merges, m .made, eu, join-words (P .0) y (rw (m .number) at ey) b f)
         (sym (unless-next (refusal w v zeros) go (tooMuchWork o) (noRoom (P .1) ∷ []) (m .light)
         ∙ unless-next (refusal w v zeros) go (noRoom (P .1)) [] (ap not (m .room))))

@@ -3,7 +3,7 @@ use mathlib.Core.Path.{_≡_, refl, sym, ap, _∙_, subst}
 use mathlib.Core.Logic.{_↔_, _≢_}
 use mathlib.Core.Bool.{Bool, true, false, not}
 use mathlib.Core.List.{List, [], _∷_, _++_}
-use Prim.Native.Nat.{ℕ, suc, _<_, _≤_, max}
+use Prim.Native.Nat.{ℕ, suc, _+_, _-_, _<_, _≤_, max}
 use native.Mathlib.Omega.{arith}
 use lib.ListN.{length, getD, length-append}
 use borrow.Author.Tests.{not-false, ltb-true, leb-false}
@@ -28,7 +28,7 @@ use Rattle.store.specs.Calls.{context, Left, leavesAfter, zeros}
 use Rattle.store.specs.Admit.{sound-goes, known-goes}
 use Rattle.contexts.specs.MergeCall.{mergeCall}
 use Rattle.contexts.specs.MergeCall.Laws.{merge-nested, mergedKnown}
-use Rattle.contexts.specs.Promises.{store-after, merge-sound-after, merge-stands}
+use Rattle.contexts.specs.Promises.{store-after, merge-sound-after, merge-stands, merge-figure}
 use Rattle.sets.specs.Config.{Config}
 use Rattle.sets.specs.Lists.{any, all}
 use Rattle.cases.specs.Bools.{bool?, never-both}
@@ -41,9 +41,9 @@ use Rattle.sets.specs.Held.{HeldSet, words-held, held-words, held-set}
 use Rattle.sets.specs.Sound.{sound-good, held-sound, good-few}
 use Rattle.sets.specs.Joined.{joinedIf, joined-here, joined-other, joined-length, joined-at, only-key, held-here}
 use Rattle.sets.specs.Kept.{good-inserted, good-joined}
-use Rattle.store.specs.Checks.Laws.{Clear, passed-clear, clear-passed}
-use Rattle.sets.specs.Refusals.{SoundLent, clear-lent, lent-clear, refusal-reply, fresh-refused-leaves}
-use Rattle.sets.specs.Calls.{SetReply, refused, done, added, SetLeft, setLeft, setLeftAfter, Adds, refusal, lentLengths, lentChecks, addWork, addChecks, freshSetCall, addCall}
+use Rattle.store.specs.Checks.Laws.{Clear, by-unless, passed-clear, clear-passed}
+use Rattle.sets.specs.Refusals.{SoundLent, clear-lent, lent-clear, refusal-reply, refusal-keeps, refusal-made, fresh-refused-leaves}
+use Rattle.sets.specs.Calls.{SetReply, refused, done, added, SetLeft, setLeft, addsAfter, Adds, refusal, lentLengths, lentChecks, addWork, addChecks, freshSetCall, addCall}
 use Rattle.sets.specs.Calls.{closeCall}
 use Rattle.configs.specs.Joins.{made-is}
 use Rattle.configs.specs.Settles.{fresh-flags, fresh-goes}
@@ -81,7 +81,7 @@ module _ (w v z : List ℕ) (x : Config) (a : ℕ) (w′ v′ : List ℕ) (ok : 
   after : Addition
   after = addTo (storeOf w) (setOf v) x
 
-  outcome : addCall w v z x ≡ setLeftAfter (countOf (addWork (storeOf w) (setOf v) x)) (added (after .answer)) (wordsOf (after .store)) (setWords (after .set)) zeros
+  outcome : addCall w v z x ≡ addsAfter (countOf (addWork (storeOf w) (setOf v) x)) (storeOf w) after
   unfolding addCall after
   outcome = clear-passed (refusal w v z) _ (addChecks w v z x) passed
 
@@ -203,7 +203,7 @@ module _ (w v z : List ℕ) (x : Config) (a : ℕ) (w′ v′ : List ℕ) (ok : 
 
     -- the store after is the merge's, and so is the config's context
     pub merged-call : mergeCall w z (configAt v i .context) (x .context) (not (flag 1 v))
-        ≡ leavesAfter (addCall w v z x .merges) (context (configAt v′ i .context)) w′ zeros
+        ≡ leavesAfter (addCall w v z x .merges) (addCall w v z x .made) (context (configAt v′ i .context)) w′ zeros
     unfolding mergedTo joined mergedKnown
     merged-call =
         let l = lent in
@@ -216,7 +216,7 @@ module _ (w v z : List ℕ) (x : Config) (a : ℕ) (w′ v′ : List ℕ) (ok : 
         ∙ known-goes w (x .context) _ context-known
         ∙ made-is w (counting (not (flag 1 v)) (storeOf w) (configAt v i .context) (x .context)) (mergedTo w v x i)
         (rw work at little) (not-false _ (rw joining at there-is-room))
-        ∙ rw (c, s, ap (λ (l : SetLeft). l .merges) outcome, work)
+        ∙ rw (c, s, ap (λ (l : SetLeft). l .merges) outcome, ap (λ (l : SetLeft). l .made) outcome, work, joining)
 
     pub merged-accepted : (mergeCall w z (configAt v i .context) (x .context) (not (flag 1 v)) .reply ≡ context (configAt v′ i .context))
         × (mergeCall w z (configAt v i .context) (x .context) (not (flag 1 v)) .store ≡ w′)
@@ -270,6 +270,15 @@ module _ (w v z : List ℕ) (x : Config) (a : ℕ) (w′ v′ : List ℕ) (ok : 
       key? merged-sound
       (λ n. (subst (λ (u : List ℕ). sound u ≡ true) (sym (inserted-store n)) (true-sound w (lent .store-length) (lent .store-sound)), inserted-sound n))
 
+  -- the contexts that there are more than before
+  pub added-grows : contexts w + addCall w v z x .made ≡ contexts w′
+  unfolding after
+  added-grows =
+      let made : addCall w v z x .made ≡ length (after .store) - length (storeOf w) = ap (λ (l : SetLeft). l .made) outcome in
+      key?
+      (λ i l q. rw (merged-call i l q) at (merge-figure w z (configAt v i .context) (x .context) (not (flag 1 v))))
+      (λ n. rw (inserted-store n) (omega (arith, made, ap (λ (A : Addition). length (A .store)) (insertion n))))
+
   -- and the set's own flags are as they were
   pub full-kept : flag 1 v′ ≡ flag 1 v
   full-kept = key? (λ i l q. ap (λ (S : Set). S .full) (merged-set i l q)) (λ n. ap (λ (S : Set). S .full) (held-set v′ _ (inserted-held n)))
@@ -277,6 +286,20 @@ module _ (w v z : List ℕ) (x : Config) (a : ℕ) (w′ v′ : List ℕ) (ok : 
   pub open-after : flag 8 v′ ≡ false
   open-after =
       key? (λ i l q. ap (λ (S : Set). S .closed) (merged-set i l q)) (λ n. ap (λ (S : Set). S .closed) (held-set v′ _ (inserted-held n))) ∙ was-open
+
+-- "how many contexts the call made: exactly the count after less the count before"; of a refused call too, which makes none
+pub add-figure : (w v z : List ℕ) (x : Config) → contexts w + addCall w v z x .made ≡ contexts (addCall w v z x .store)
+unfolding addCall
+add-figure w v z x =
+    let A = addTo (storeOf w) (setOf v) x in
+    by-unless (refusal w v z) (addsAfter (countOf (addWork (storeOf w) (setOf v) x)) (storeOf w) A)
+    (λ (l : SetLeft). addCall w v z x ≡ l → contexts w + l .made ≡ contexts (l .store))
+    (λ n e. rw (refusal-made w v z n, refusal-keeps w v z n .0) (omega arith))
+    (λ e.
+    let ok : Adds (addCall w v z x) (A .answer) (wordsOf (A .store)) (setWords (A .set)) =
+    (ap (λ (l : SetLeft). l .reply) e, ap (λ (l : SetLeft). l .store) e, ap (λ (l : SetLeft). l .set) e) in
+    ap (λ (l : SetLeft). contexts w + l .made) (sym e) ∙ added-grows w v z x _ _ _ ok)
+    (addChecks w v z x) refl
 
 -- ---- a set closed
 

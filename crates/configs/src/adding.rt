@@ -1,6 +1,7 @@
 // A config added to a set.
 use crate::joining::join;
 use crate::write::put_config;
+use contexts::Work;
 use setcheck::AtnConfig;
 use setcheck::inner::flags::joined_flags;
 use setcheck::inner::keys::KeyPlace;
@@ -20,19 +21,19 @@ ghost use Rattle.setcheck.specs.Configs.{configOf};
 ghost use Rattle.configs.specs.Adding.{Addable, addRest, insertCall};
 ghost use Rattle.sets.specs.Held.{HeldSet};
 ghost use Rattle.sets.specs.Words.{setOf};
-ghost use Rattle.configs.specs.Replies.{addedLeft, addedReply, mergesOf};
+ghost use Rattle.configs.specs.Replies.{addedLeft, addedReply, noWork, workOf};
 
-// What adding a config answers: inserted, or merged after so many merges.
+// What adding a config answers: inserted, or merged with so much work.
 pub enum Added {
     Inserted,
-    Merged(u32),
+    Merged(Work),
     Refused(Refusal),
 }
 
 // Puts a config last, where the set has room. Refused 8.
 fn insert(set: &mut [u32], config: AtnConfig) -> Added
     requires { ⌜ HeldSet (now set) (setOf (now set)) ⌝ }
-    ensures { λ r. ⌜ ((addedReply r, now (set .exit)) ≡ insertCall (now (set .entry)) (configOf config)) × (mergesOf r ≡ 0) ⌝ }
+    ensures { λ r. ⌜ ((addedReply r, now (set .exit)) ≡ insertCall (now (set .entry)) (configOf config)) × (workOf r ≡ noWork) ⌝ }
 {
     let count = config_count(set) as usize;
     if MOST_CONFIGS <= count {

@@ -9,7 +9,7 @@ use Rattle.arena.specs.Place.{mergeS}
 use Rattle.layout.specs.Layout.{count as contexts}
 use Rattle.layout.specs.Decode.{storeOf}
 use Rattle.store.specs.Checks.{Check, given, unless}
-use Rattle.store.specs.Calls.{Left, refusal, wrongLength, unsoundStore, tooMuchWork, noRoom, madeAfter}
+use Rattle.store.specs.Calls.{Left, refusal, wrongLength, unsoundStore, tooMuchWork, noRoom, givesAfter}
 
 -- the merge of a and b, by wildcard or full-context; 4: one of the two numbers is not below the count
 -- 12: too much work; 6: where the work is not too much, no room
@@ -20,4 +20,4 @@ mergeChecks w z a b m =
 
 -- the number, after so many merges, and the words of the store that has it
 unfoldable pub mergeCall : List ℕ → List ℕ → ℕ → ℕ → Bool → Left
-mergeCall w z a b m = unless (mergeChecks w z a b m) (refusal w z) (madeAfter (countOf (counting m (storeOf w) a b)) (mergeS m (storeOf w) a b))
+mergeCall w z a b m = unless (mergeChecks w z a b m) (refusal w z) (givesAfter (countOf (counting m (storeOf w) a b)) (storeOf w) (mergeS m (storeOf w) a b))

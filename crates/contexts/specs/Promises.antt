@@ -5,7 +5,7 @@ use mathlib.Core.Path.{_≡_, refl, sym, ap, _∙_}
 use mathlib.Core.Logic.{_↔_}
 use mathlib.Core.Bool.{Bool, true, false, not, _&&_, _||_}
 use mathlib.Core.List.{List, [], _∷_}
-use Prim.Native.Nat.{ℕ, _<_, _≤_}
+use Prim.Native.Nat.{ℕ, _+_, _-_, _<_, _≤_}
 use native.Mathlib.Omega.{arith}
 use lib.Dec.{ltb}
 use lib.ListN.{length}
@@ -20,7 +20,7 @@ use Rattle.arena.specs.Trees.{tree-canon}
 use Rattle.arena.specs.Stands.{stands}
 use Rattle.arena.specs.Identity.{same-stacks}
 use Rattle.arena.specs.Place.{mergeS}
-use Rattle.arena.specs.Placed.{grew-tree, grew-length}
+use Rattle.arena.specs.Placed.{grew-tree, grew-length, place-there}
 use Rattle.arena.specs.Steps.{merge-holds, merge-grew, merge-same}
 use Rattle.arena.specs.Numbering.{parts, Joins}
 use Rattle.arena.specs.Numbering.Laws.{merge-numbers}
@@ -40,8 +40,8 @@ use Rattle.words.specs.Refusals.{number}
 use Rattle.work.specs.Counted.{counting, refused as over, countOf}
 use Rattle.work.specs.Theorems.{else-answered, count-within}
 use Rattle.store.specs.Told.{number-tells}
-use Rattle.store.specs.Calls.{refused, context, Left, refusal, madeAfter, Accepts}
-use Rattle.store.specs.Calls.Laws.{refused-exactly, refused-leaves, accepted, right-lengths, is-sound, both-known, has-room, little-work, accepted-merges}
+use Rattle.store.specs.Calls.{refused, context, Left, refusal, givesAfter, Accepts}
+use Rattle.store.specs.Calls.Laws.{refused-exactly, refused-leaves, accepted, right-lengths, is-sound, both-known, has-room, little-work, accepted-merges, made-exactly, found-exactly}
 use Rattle.store.specs.Nested.{ifKnown}
 use Rattle.store.specs.Admit.{known-goes, unknown}
 use Rattle.interning.specs.SingletonCall.Laws.{checked-agree}
@@ -68,7 +68,7 @@ module _ (w z : List ℕ) (a b : ℕ) (m : Bool) (c : ℕ) (w′ : List ℕ) (ok
   passed : Passed
   unfolding mergeCall mergeChecks
   passed =
-      let r = accepted w z _ (countOf (counting m (storeOf w) a b)) (mergeS m (storeOf w) a b) c w′ ok in
+      let r = accepted w z _ (countOf (counting m (storeOf w) a b)) (storeOf w) (mergeS m (storeOf w) a b) c w′ ok in
       let l = right-lengths w z (r .0 .0) .0 in
       let d = decoded w l (sound-true w l (is-sound w z (r .0 .1 .0))) in
       record {
@@ -146,6 +146,22 @@ module _ (w z : List ℕ) (a b : ℕ) (m : Bool) (c : ℕ) (w′ : List ℕ) (ok
       let there : k < length (storeOf w′) = omega arith in
       (rw (store-length w′ (contexts w′)) at there, λ σ. ap (λ (F : Forest). mem F σ) ((rw store-after) ∙ grew-tree (storeOf w) _ g k old))
 
+  -- the contexts that there are more than before
+  merge-grows : contexts w + (length (mergeS m (storeOf w) a b .1) - length (storeOf w)) ≡ contexts w′
+  merge-grows =
+      let more = grew-length (storeOf w) _ (merge-grew m (storeOf w) (passed .good .sound) a b ha hb) in
+      omega (arith, more, ap length store-after, store-length w (contexts w), store-length w′ (contexts w′))
+
+  -- where the number was there before, nothing is made
+  merge-there : c < contexts w → w′ ≡ w
+  unfolding mergeS
+  merge-there h =
+      let s = storeOf w in
+      let old : c < length s = rw (store-length w (contexts w)) h in
+      let g = merge-grew m s (passed .good .sound) a b ha hb in
+      let is : tree s c ≡ mergeT m (tree s a) (tree s b) = sym (grew-tree s _ g c old) ∙ ap (λ (u : Store). tree u c) (sym store-after) ∙ merge-tree in
+      sym (passed .after) ∙ ap (λ (x : ℕ × Store). wordsOf (x .1)) (place-there s (passed .good .sound) c _ old is) ∙ sym (passed .words)
+
   -- "New contexts take the next number: inner merges go in rising order of top state, each before the context above it, and nothing else is made."
   pub merge-numbers-after : Joins (storeOf w) (parts (mergeT m (tree (storeOf w) a) (tree (storeOf w) b))) (storeOf w′)
   merge-numbers-after = rw store-after (merge-numbers m (storeOf w) (passed .good .sound) a b ha hb)
@@ -199,14 +215,14 @@ module _ (w z : List ℕ) (a b : ℕ) (m : Bool) (n : ℕ) where
   merge-refused-exactly =
       let x = mergeS m (storeOf w) a b in
       let k = countOf (counting m (storeOf w) a b) in
-      refused-exactly w z (mergeChecks w z a b m) (madeAfter k x) (no-refusal k x) n
+      refused-exactly w z (mergeChecks w z a b m) (givesAfter k (storeOf w) x) (no-refusal k (storeOf w) x) n
 
   pub merge-refused-leaves : mergeCall w z a b m .reply ≡ refused n → mergeCall w z a b m ≡ refusal w z n
   unfolding mergeCall
   merge-refused-leaves =
       let x = mergeS m (storeOf w) a b in
       let k = countOf (counting m (storeOf w) a b) in
-      refused-leaves w z (mergeChecks w z a b m) (madeAfter k x) (no-refusal k x) n
+      refused-leaves w z (mergeChecks w z a b m) (givesAfter k (storeOf w) x) (no-refusal k (storeOf w) x) n
 
   pub merge-in-order : inOrder order (mergeChecks w z a b m) ≡ true
   unfolding mergeChecks inOrder
@@ -218,7 +234,9 @@ merged-tells : (a b : Merged) (u v y x : List ℕ) → merged a u y ≡ merged b
 merged-tells (Number c n) (Number d k) u v y x e =
     let f : context (c .0) ≡ context (d .0) = ap (λ (o : Left). o .reply) e in
     let i : c .0 ≡ d .0 = cc in
-    ap (λ (j : ℕ). Number (record { 0 = j }) n) i ∙ ap (Number d) (ap (λ (o : Left). o .merges) e)
+    ap (λ (j : ℕ). Number (record { 0 = j }) n) i ∙
+    ap (λ (j : ℕ). Number d (record { merges = j; made = n .made })) (ap (λ (o : Left). o .merges) e) ∙
+    ap (λ (j : ℕ). Number d (record { merges = k .merges; made = j })) (ap (λ (o : Left). o .made) e)
 merged-tells (Number c n) (Refused g) u v y x e = let f : context (c .0) ≡ refused (number g) = ap (λ (o : Left). o .reply) e in cc
 merged-tells (Refused f) (Number d k) u v y x e = let g : refused (number f) ≡ context (d .0) = ap (λ (o : Left). o .reply) e in cc
 merged-tells (Refused f) (Refused g) u v y x e = ap Refused (number-tells f g (ap (λ (o : Left). o .reply) e))
@@ -236,6 +254,21 @@ merge-determined w z l r m a b u v y x p q =
     let o = words-tell a b u v y x e in
     (merged-tells a b u v y x e, o .0, o .1)
 
+-- ---- what is made
+
+-- "how many contexts the call made: exactly the count after less the count before"
+pub merge-figure : (w z : List ℕ) (a b : ℕ) (m : Bool) → contexts w + mergeCall w z a b m .made ≡ contexts (mergeCall w z a b m .store)
+unfolding mergeCall
+merge-figure w z a b m =
+    let s = storeOf w in
+    made-exactly w z (mergeChecks w z a b m) (countOf (counting m s a b)) s (mergeS m s a b) (λ ok. merge-grows w z a b m _ _ ok)
+
+-- "whether the context was found or made": the figure is 0 exactly if the number was there before
+pub merge-found : (w z : List ℕ) (a b : ℕ) (m : Bool) (c : ℕ) (w′ : List ℕ) → Accepts (mergeCall w z a b m) c w′
+    → (mergeCall w z a b m .made ≡ 0) ↔ (c < contexts w)
+merge-found w z a b m c w′ ok =
+    found-exactly w w′ c _ (merge-figure w z a b m ∙ ap contexts (ok .1)) (merge-sound-after w z a b m c w′ ok .2) (merge-there w z a b m c w′ ok)
+
 -- ---- what is counted
 
 -- An accepted merge counts what the definition counts, and never more than the ceiling.
@@ -244,7 +277,7 @@ pub merge-counts : (w z : List ℕ) (a b : ℕ) (m : Bool) (c : ℕ) (w′ : Lis
 unfolding mergeCall mergeChecks countOf
 merge-counts w z a b m c w′ ok =
     let s = storeOf w in
-    let is = accepted-merges w z (mergeChecks w z a b m) (countOf (counting m s a b)) (mergeS m s a b) c w′ ok in
+    let is = accepted-merges w z (mergeChecks w z a b m) (countOf (counting m s a b)) s (mergeS m s a b) c w′ ok in
     let v = passed w z a b m c w′ ok in
     let l = ha w z a b m c w′ ok in
     let r = hb w z a b m c w′ ok in

@@ -6,7 +6,7 @@ use Rattle.store.specs.Calls.{Left, leaves, leavesAfter, refused, context}
 use Rattle.contexts.specs.declared.merges.Merged.{Merged}
 use Rattle.contexts.specs.declared.merges.Merged.the-variants.{Number, Refused}
 
--- a context's number and how many merges were counted, or a refusal's number; and the words of store and scratch
+-- a context's number, how many merges were counted and how many contexts made, or a refusal's number; and the words of store and scratch
 abbrev pub merged : Merged → List ℕ → List ℕ → Left
-merged (Number c n) w z = leavesAfter n (context (c .0)) w z
+merged (Number c k) w z = leavesAfter (k .merges) (k .made) (context (c .0)) w z
 merged (Refused f) w z = leaves (refused (number f)) w z

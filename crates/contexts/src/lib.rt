@@ -3,4 +3,5 @@ pub mod inner;
 mod merges;
 
 pub use merges::Merged;
+pub use merges::Work;
 pub use merges::merge;

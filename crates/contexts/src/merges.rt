@@ -14,9 +14,15 @@ ghost use Rattle.contexts.specs.MergeCall.{mergeCall};
 ghost use Rattle.contexts.specs.MergeCall.Laws.{mergedKnown};
 ghost use Rattle.contexts.specs.Replies.{merged};
 
-// What a merge answers: the context's number, and how many merges were counted.
+// How many merges a call counted, and how many contexts it made.
+pub struct Work {
+    pub merges: u32,
+    pub made: u32,
+}
+
+// What a merge answers: the context's number, and the work that it took.
 pub enum Merged {
-    Number(ContextId, u32),
+    Number(ContextId, Work),
     Refused(Refusal),
 }
 
@@ -36,10 +42,10 @@ pub fn merge_known(
     cache::clear_cache(scratch);
     let outcome = merging::merge(store, scratch, left, right, root_is_wildcard, 0);
     match outcome {
-        Numbered::Number(context) => {
+        Numbered::Number(context, made) => {
             let merges = cache::merges_counted(scratch);
             words::clear(scratch);
-            Merged::Number(context, merges)
+            Merged::Number(context, Work { merges, made })
         }
         Numbered::Refused(refusal) => {
             cut_back(store, count, used);

@@ -20,15 +20,15 @@ use Rattle.encoding.specs.Encoded.{node-below}
 use Rattle.index.specs.Records.{stackNode}
 use Rattle.index.specs.Writes.{putEntry}
 use Rattle.store.specs.Asks.{Known}
-use Rattle.interning.specs.Live.{Live, Pushed, live-sound, live-count, live-length}
-use Rattle.interning.specs.Interned.{Interns}
+use Rattle.interning.specs.Live.{Live, Pushed, GrewTo, live-sound, live-count, live-length}
+use Rattle.interning.specs.Interned.{More, Interns}
 use Rattle.work.specs.Heads.{headState, headParent, cons, tail, cons-stop, cons-push}
 use Rattle.entries.specs.EntriesFrom.{rest, rest-next, rest-size, rest-none, size-full, rest-rise, rest-below, head-rises, head-most, head-older, head-dollar, head-cons}
 use Rattle.entries.specs.StackAhead.{onto-listing}
 use Rattle.entries.specs.StackEntry.{Under, under-le}
 use Rattle.entries.specs.Laying.{Stacks, ahead, SameBelow, Next, Laid, lay}
-use Rattle.interning.specs.declared.inner.intern.Made.{Made}
-use Rattle.interning.specs.declared.inner.intern.Made.the-variants.{At, NoRoom}
+use Rattle.interning.specs.declared.inner.intern.Interned.{Interned}
+use Rattle.interning.specs.declared.inner.intern.Interned.the-variants.{Found, Made, NoRoom}
 
 -- n entries from `top` on, to be followed by those of the context c from i on
 pub record Finishing (w z : List ℕ) (c i top n : ℕ) : Type 0 where
@@ -50,8 +50,9 @@ pub record Extended (z : List ℕ) (top : ℕ) (x : ℕ × Store) (d : ℕ) (w u
   pub same : (e : ℕ) → 1792 ≤ e → e < 7936 + 2 * top → getD u e 0 ≡ getD z e 0
   pub after : (e : ℕ) → 16336 ≤ e → getD u e 0 ≡ getD z e 0
 
-abbrev pub Extends : List ℕ → List ℕ → ℕ → ℕ × Store → Made → List ℕ → List ℕ → Type 0
-Extends w z top x (At d) v u = Extended z top x (d .0) v u
+abbrev pub Extends : List ℕ → List ℕ → ℕ → ℕ × Store → Interned → List ℕ → List ℕ → Type 0
+Extends w z top x (Found d) v u = Extended z top x (d .0) v u × More w 0 v
+Extends w z top x (Made d) v u = Extended z top x (d .0) v u × More w 1 v
 Extends w z top x NoRoom v u = (Fits (x .1) → ⊥) × (v ≡ w) × (length u ≡ scratchWords)
 
 -- a live store's context can be read
@@ -132,19 +133,24 @@ module _ {w z₀ : List ℕ} {c i₀ top n₀ : ℕ} {z : List ℕ} {i n : ℕ} 
 
 -- ---- what interning leaves
 
-pub finished : {w z₀ : List ℕ} {c i₀ top n₀ : ℕ} {z : List ℕ} {i n : ℕ} (v : Tail w z₀ c i₀ top n₀ z i n) → size (nodeAt (storeOf w) c) ≤ i
-    → (made : Made) (w′ u : List ℕ) → Interns w z top n made w′ u → Extends w z₀ top (whole w z₀ c i₀ top n₀) made w′ u
-finished {w} v h (At x) w′ u g = record {
-  number = g .number ∙ ap (λ (q : Node). intern (storeOf w) q .0) (tail-done v h .1);
-  store = g .store ∙ ap (λ (q : Node). intern (storeOf w) q .1) (tail-done v h .1);
-  live = g .live;
-  same = λ e a b. g .above e a ∙ v .same e (omega arith);
-  after = λ e a. g .above e (omega arith) ∙ v .after e a;
-}
-finished v h NoRoom w′ u g = (λ f. g .0 (rw (tail-done v h .1) f), g .1, ap length (g .2) ∙ v .now .live .index .sized)
+module _ {w z₀ : List ℕ} {c i₀ top n₀ : ℕ} {z : List ℕ} {i n : ℕ} (v : Tail w z₀ c i₀ top n₀ z i n) (h : size (nodeAt (storeOf w) c) ≤ i) where
+  reached : (d : ℕ) (w′ u : List ℕ) → GrewTo z u w′ (intern (storeOf w) (stackNode z top n)) d → Extended z₀ top (whole w z₀ c i₀ top n₀) d w′ u
+  reached d w′ u g = record {
+    number = g .number ∙ ap (λ (q : Node). intern (storeOf w) q .0) (tail-done v h .1);
+    store = g .store ∙ ap (λ (q : Node). intern (storeOf w) q .1) (tail-done v h .1);
+    live = g .live;
+    same = λ e a b. g .above e a ∙ v .same e (omega arith);
+    after = λ e a. g .above e (omega arith) ∙ v .after e a;
+  }
+
+  pub finished : (r : Interned) (w′ u : List ℕ) → Interns w z top n r w′ u → Extends w z₀ top (whole w z₀ c i₀ top n₀) r w′ u
+  finished (Found d) w′ u g = (reached (d .0) w′ u (g .0), g .1)
+  finished (Made d) w′ u g = (reached (d .0) w′ u (g .0), g .1)
+  finished NoRoom w′ u g = (λ f. g .0 (rw (tail-done v h .1) f), g .1, ap length (g .2) ∙ v .now .live .index .sized)
 
 -- whatever it answers, lengths are kept
-pub extends-lengths : {w z : List ℕ} {c i top n : ℕ} → Finishing w z c i top n → (made : Made) (w′ u : List ℕ) → Extends w z top (whole w z c i top n) made w′ u
+pub extends-lengths : {w z : List ℕ} {c i top n : ℕ} → Finishing w z c i top n → (r : Interned) (w′ u : List ℕ) → Extends w z top (whole w z c i top n) r w′ u
     → (length w′ ≡ storeWords) × (length u ≡ scratchWords)
-extends-lengths v (At x) w′ u g = (live-length (g .live), g .live .index .sized)
+extends-lengths v (Found x) w′ u g = (live-length (g .0 .live), g .0 .live .index .sized)
+extends-lengths v (Made x) w′ u g = (live-length (g .0 .live), g .0 .live .index .sized)
 extends-lengths v NoRoom w′ u g = (ap length (g .1) ∙ live-length (v .live), g .2)

@@ -1,7 +1,7 @@
 // The end of a merge: the rest of one side after what is on the stack, and all of it interned.
 use crate::reads::entry;
 use crate::reads::entry_count;
-use interning::inner::intern::Made;
+use interning::inner::intern::Interned;
 use interning::inner::intern::intern_entries;
 use words::ContextId;
 ghost use Rattle.entries.specs.Rest.{Finishing, Extends, whole};
@@ -14,7 +14,7 @@ pub fn intern_with_rest(
     index: usize,
     top: usize,
     n: usize,
-) -> Made
+) -> Interned
     requires { ⌜ Finishing (now store) (now scratch) (context .0) index top n ⌝ }
     ensures { λ r. ⌜ Extends (now (store .entry)) (now (scratch .entry)) top (whole (now (store .entry)) (now (scratch .entry)) (context .0) index top n) r
         (now (store .exit)) (now (scratch .exit)) ⌝ }

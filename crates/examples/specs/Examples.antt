@@ -122,14 +122,14 @@ pub faults : (readAt (4 ∷ 0 ∷ 7 ∷ 0 ∷ 2 ∷ 0 ∷ 0 ∷ []) 0 ≡ malfor
 unfolding readAt recordAt payloadAt accepts payloadOf payloads u16At u32At
 faults = (refl, refl, refl, refl, refl, refl, refl, refl, refl)
 
--- the whole output: `C 1`, `C 2`, `E 2 42>0 $`, `N`, `A 1`, `A 1`, `V 1 - 1 1`, `T 3 2`
+-- the whole output: `C 1 1`, `C 2 1`, `E 2 42>0 $`, `N`, `A 1 0`, `A 1 0`, `V 1 - 1 1`, `T 3 2`
 pub example : scriptReplies script ≡
-    67 ∷ 32 ∷ 49 ∷ 10
-    ∷ 67 ∷ 32 ∷ 50 ∷ 10
+    67 ∷ 32 ∷ 49 ∷ 32 ∷ 49 ∷ 10
+    ∷ 67 ∷ 32 ∷ 50 ∷ 32 ∷ 49 ∷ 10
     ∷ 69 ∷ 32 ∷ 50 ∷ 32 ∷ 52 ∷ 50 ∷ 62 ∷ 48 ∷ 32 ∷ 36 ∷ 10
     ∷ 78 ∷ 10
-    ∷ 65 ∷ 32 ∷ 49 ∷ 10
-    ∷ 65 ∷ 32 ∷ 49 ∷ 10
+    ∷ 65 ∷ 32 ∷ 49 ∷ 32 ∷ 48 ∷ 10
+    ∷ 65 ∷ 32 ∷ 49 ∷ 32 ∷ 48 ∷ 10
     ∷ 86 ∷ 32 ∷ 49 ∷ 32 ∷ 45 ∷ 32 ∷ 49 ∷ 32 ∷ 49 ∷ 10
     ∷ 84 ∷ 32 ∷ 51 ∷ 32 ∷ 50 ∷ 10 ∷ []
 unfolding script opened fresh u16At u32At u64At configFrom payloads payloadOf accepts payloadAt recordAt readAt endLine readingStep stepOf runFrom runOf scriptReplies
@@ -155,21 +155,21 @@ judged rs = let l = leftFrom fresh rs in figuresCall (l .store) (l .set) (l .scr
 
 pub P1-to-P12 :
     -- P1: singleton of 0 and 7, twice: 1 both times
-    (said (singleton 0 7 ∷ singleton 0 7 ∷ []) ≡ contextLine 1 ++ contextLine 1)
+    (said (singleton 0 7 ∷ singleton 0 7 ∷ []) ≡ contextLine 1 1 ++ contextLine 1 0)
     -- P2: the empty mark on parent 0: 0. P3 4294967294 accepted. P4 4294967295 refused 5
-    × (said (singleton 0 18446744073709551615 ∷ []) ≡ contextLine 0)
-    × (said (singleton 0 4294967294 ∷ []) ≡ contextLine 1)
+    × (said (singleton 0 18446744073709551615 ∷ []) ≡ contextLine 0 0)
+    × (said (singleton 0 4294967294 ∷ []) ≡ contextLine 1 1)
     × (said (singleton 0 4294967295 ∷ []) ≡ refusalLine 5)
     -- P5: full merge of 42 over 0 with 0: entries 42>0, `$`. P6 wildcard: 0
-    × (said (singleton 0 42 ∷ merge 1 0 false ∷ show 2 ∷ []) ≡ contextLine 1 ++ contextLine 2 ++ entriesLine (push 42 0 dollar))
-    × (said (singleton 0 42 ∷ merge 1 0 true ∷ []) ≡ contextLine 1 ++ contextLine 0)
+    × (said (singleton 0 42 ∷ merge 1 0 false ∷ show 2 ∷ []) ≡ contextLine 1 1 ++ contextLine 2 1 ++ entriesLine (push 42 0 dollar))
+    × (said (singleton 0 42 ∷ merge 1 0 true ∷ []) ≡ contextLine 1 1 ++ contextLine 0 0)
     -- P7: full merge of 7 over 100 and 7 over 200: one entry 7; its parent has entries 100 and 200
     × (said (singleton 0 100 ∷ singleton 0 200 ∷ singleton 1 7 ∷ singleton 2 7 ∷ merge 3 4 false ∷ show 6 ∷ show 5 ∷ [])
-    ≡ contextLine 1 ++ contextLine 2 ++ contextLine 3 ++ contextLine 4 ++ contextLine 6 ++ entriesLine (push 7 5 end) ++ entriesLine (push 100 0 (push 200 0 end)))
+    ≡ contextLine 1 1 ++ contextLine 2 1 ++ contextLine 3 1 ++ contextLine 4 1 ++ contextLine 6 2 ++ entriesLine (push 7 5 end) ++ entriesLine (push 100 0 (push 200 0 end)))
     -- P8: wildcard of 7 over 42 with 7 over 0: the latter. P9 full: one entry 7; its parent has 42 and `$`
-    × (said (singleton 0 42 ∷ singleton 1 7 ∷ singleton 0 7 ∷ merge 2 3 true ∷ []) ≡ contextLine 1 ++ contextLine 2 ++ contextLine 3 ++ contextLine 3)
+    × (said (singleton 0 42 ∷ singleton 1 7 ∷ singleton 0 7 ∷ merge 2 3 true ∷ []) ≡ contextLine 1 1 ++ contextLine 2 1 ++ contextLine 3 1 ++ contextLine 3 0)
     × (said (singleton 0 42 ∷ singleton 1 7 ∷ singleton 0 7 ∷ merge 2 3 false ∷ show 5 ∷ show 4 ∷ [])
-    ≡ contextLine 1 ++ contextLine 2 ++ contextLine 3 ++ contextLine 5 ++ entriesLine (push 7 4 end) ++ entriesLine (push 42 0 dollar))
+    ≡ contextLine 1 1 ++ contextLine 2 1 ++ contextLine 3 1 ++ contextLine 5 2 ++ entriesLine (push 7 4 end) ++ entriesLine (push 42 0 dollar))
     -- P10: empty set: verdict yes, unique none, viable none
     × (judged [] ≡ summary (record { subsets = 0; unique = none; viable = none; verdict = true }))
     -- P11: state 7, alternatives 1 and 2, one context: yes, viable 1. P12 with state 8, alternative 2 added: no, viable none
@@ -178,11 +178,21 @@ pub P1-to-P12 :
 unfolding said saidFrom judged leftFrom fresh opened
 P1-to-P12 = (refl, refl, refl, refl, refl, refl, refl, refl, refl, refl, refl, refl)
 
+-- ---- how many contexts a call made (request A3)
+
+-- `C 1 1`, `C 2 1`, `C 3 1`, `C 4 1`, `A 1 0`; `A 0 2`, of the merge in P7; `A 0 0`, of a merge that finds what it needs
+pub figures :
+    said (singleton 0 100 ∷ singleton 0 200 ∷ singleton 1 7 ∷ singleton 2 7 ∷ add (config 9 1 3) ∷ add (config 9 1 4) ∷ add (config 9 1 4) ∷ [])
+    ≡ contextLine 1 1 ++ contextLine 2 1 ++ contextLine 3 1 ++ contextLine 4 1 ++ addedLine 1 0
+    ++ 65 ∷ 32 ∷ 48 ∷ 32 ∷ 50 ∷ 10 ∷ 65 ∷ 32 ∷ 48 ∷ 32 ∷ 48 ∷ 10 ∷ []
+unfolding said saidFrom fresh opened
+figures = refl
+
 -- ---- none is told from alternative 0
 
 -- a set on alternative 0 alone: `V 1 0 0 0`; an empty one: `V 0 - - 1`
 pub zero-and-none :
-    (said (add (config 7 0 0) ∷ verdict ∷ []) ≡ addedLine 1 ++ 86 ∷ 32 ∷ 49 ∷ 32 ∷ 48 ∷ 32 ∷ 48 ∷ 32 ∷ 48 ∷ 10 ∷ [])
+    (said (add (config 7 0 0) ∷ verdict ∷ []) ≡ addedLine 1 0 ++ 86 ∷ 32 ∷ 49 ∷ 32 ∷ 48 ∷ 32 ∷ 48 ∷ 32 ∷ 48 ∷ 10 ∷ [])
     × (said (verdict ∷ []) ≡ 86 ∷ 32 ∷ 48 ∷ 32 ∷ 45 ∷ 32 ∷ 45 ∷ 32 ∷ 49 ∷ 10 ∷ [])
 unfolding said saidFrom fresh opened
 zero-and-none = (refl, refl)
@@ -193,12 +203,12 @@ zero-and-none = (refl, refl)
 -- of the lowest, though the subset before it clashes; `W clash 7 0 1 2`, of the first subset, whose alternatives are not those of the whole state
 pub reasons :
     (said (why ∷ []) ≡ 87 ∷ 32 ∷ 115 ∷ 116 ∷ 111 ∷ 112 ∷ 10 ∷ [])
-    × (said (add (config 7 1 0) ∷ add (config 7 2 0) ∷ stops (7 ∷ []) ∷ why ∷ []) ≡ addedLine 1 ++ addedLine 1 ++ stopsLine 1 ++ reasonLine stop)
-    × (said (add (config 7 1 0) ∷ why ∷ []) ≡ addedLine 1 ++ 87 ∷ 32 ∷ 110 ∷ 111 ∷ 110 ∷ 101 ∷ 10 ∷ [])
+    × (said (add (config 7 1 0) ∷ add (config 7 2 0) ∷ stops (7 ∷ []) ∷ why ∷ []) ≡ addedLine 1 0 ++ addedLine 1 0 ++ stopsLine 1 ++ reasonLine stop)
+    × (said (add (config 7 1 0) ∷ why ∷ []) ≡ addedLine 1 0 ++ 87 ∷ 32 ∷ 110 ∷ 111 ∷ 110 ∷ 101 ∷ 10 ∷ [])
     × (said (add (config 7 1 0) ∷ add (config 7 2 0) ∷ add (config 8 2 0) ∷ add (config 3 5 0) ∷ why ∷ [])
-    ≡ addedLine 1 ++ addedLine 1 ++ addedLine 1 ++ addedLine 1 ++ 87 ∷ 32 ∷ 111 ∷ 110 ∷ 101 ∷ 32 ∷ 56 ∷ 32 ∷ 50 ∷ 10 ∷ [])
+    ≡ addedLine 1 0 ++ addedLine 1 0 ++ addedLine 1 0 ++ addedLine 1 0 ++ 87 ∷ 32 ∷ 111 ∷ 110 ∷ 101 ∷ 32 ∷ 56 ∷ 32 ∷ 50 ∷ 10 ∷ [])
     × (said (singleton 0 42 ∷ add (config 7 3 1) ∷ add (config 7 2 0) ∷ add (config 7 1 0) ∷ add (config 9 4 1) ∷ add (config 9 5 1) ∷ why ∷ [])
-    ≡ contextLine 1 ++ addedLine 1 ++ addedLine 1 ++ addedLine 1 ++ addedLine 1 ++ addedLine 1
+    ≡ contextLine 1 1 ++ addedLine 1 0 ++ addedLine 1 0 ++ addedLine 1 0 ++ addedLine 1 0 ++ addedLine 1 0
     ++ 87 ∷ 32 ∷ 99 ∷ 108 ∷ 97 ∷ 115 ∷ 104 ∷ 32 ∷ 55 ∷ 32 ∷ 48 ∷ 32 ∷ 49 ∷ 32 ∷ 50 ∷ 10 ∷ [])
 unfolding said saidFrom fresh opened
 reasons = (refl, refl, refl, refl, refl)

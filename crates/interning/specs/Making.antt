@@ -31,11 +31,14 @@ use Rattle.index.specs.Walk.{hash-held}
 use Rattle.interning.specs.Live.{Live, Pushed, GrewTo, SameAbove, live-count, live-used, live-records, words-live}
 use Rattle.interning.specs.Write.{written-array, written-single}
 use Rattle.arena.specs.Kinds.Laws.{room-many}
-use Rattle.interning.specs.Interned.{Missing}
+use Rattle.interning.specs.Interned.{More, Missing}
 
 -- nothing is made
-pub grown-same : (w z : List ℕ) (x : ℕ × Store) (c : ℕ) → Live w z → x ≡ (c, storeOf w) → GrewTo z z w x c
-grown-same w z x c v e = record { number = sym (ap (λ (y : ℕ × Store). y .0) e); store = sym (ap (λ (y : ℕ × Store). y .1) e); live = v; above = λ i h. refl }
+pub grown-same : (w z : List ℕ) (x : ℕ × Store) (c : ℕ) → Live w z → x ≡ (c, storeOf w) → GrewTo z z w x c × More w 0 w
+grown-same w z x c v e = (
+  record { number = sym (ap (λ (y : ℕ × Store). y .0) e); store = sym (ap (λ (y : ℕ × Store). y .1) e); live = v; above = λ i h. refl },
+  omega arith,
+)
 
 -- ---- entries that are pushed
 
@@ -67,11 +70,11 @@ module _ {w z : List ℕ} {place n : ℕ} (v : Pushed w z place n) where
   pub missing-of : Proper z place n → (h : ℕ) → h ≡ nodeHash (hash (storeOf w)) (stackNode z place n) → find (stackNode z place n) (storeOf w) ≡ nowhere → Missing w z place n h
   missing-of p h e m = record { pushed = v; proper = p; hashed = e; missing = m }
 
-  pub none-pushed : n ≡ 0 → GrewTo z z w (intern (storeOf w) (stackNode z place n)) 0
+  pub none-pushed : n ≡ 0 → GrewTo z z w (intern (storeOf w) (stackNode z place n)) 0 × More w 0 w
   unfolding listing
   none-pushed e = grown-same w z _ 0 (v .live) (rw e (intern-end (storeOf w) (v .live .good .sound) (v .live .good .some)))
 
-  pub dollar-pushed : (n ≡ 0 → ⊥) → stackState z place ≡ stop → GrewTo z z w (intern (storeOf w) (stackNode z place n)) 0
+  pub dollar-pushed : (n ≡ 0 → ⊥) → stackState z place ≡ stop → GrewTo z z w (intern (storeOf w) (stackNode z place n)) 0 × More w 0 w
   dollar-pushed d e =
       let k : n ≡ suc (n - 1) = omega arith in
       grown-same w z _ 0 (v .live) (rw (k, listing-stop (stackState z) (stackParent z) place (n - 1) e) (intern-dollar (storeOf w) (v .live .good .sound) (v .live .good .some)))
@@ -82,7 +85,7 @@ module _ {w z : List ℕ} {place n : ℕ} (v : Pushed w z place n) where
     notDollar = λ _. omega (arith, v .stacked .entries .fit place (omega arith) (omega arith));
   }
 
-  pub found-pushed : Proper z place n → (c : ℕ) → find (stackNode z place n) (storeOf w) ≡ at c → GrewTo z z w (intern (storeOf w) (stackNode z place n)) c
+  pub found-pushed : Proper z place n → (c : ℕ) → find (stackNode z place n) (storeOf w) ≡ at c → GrewTo z z w (intern (storeOf w) (stackNode z place n)) c × More w 0 w
   found-pushed p c e =
       grown-same w z _ c (v .live)
       (intern-found (stackNode z place n) (storeOf w) (listing-full (stackState z) (stackParent z) place n (p .some)) c e)
@@ -120,7 +123,7 @@ module _ {w z : List ℕ} {place n h : ℕ} (v : Missing w z place n h) where
 
   -- the record is written and indexed
   made : (w′ u : List ℕ) → Fits (stackNode z place n ∷ storeOf w) → w′ ≡ written w (storeOf w) (stackNode z place n) → u ≡ putIndex z (count w) h
-      → GrewTo z u w′ (intern (storeOf w) (stackNode z place n)) (count w)
+      → GrewTo z u w′ (intern (storeOf w) (stackNode z place n)) (count w) × More w 1 w′
   made w′ u f ew eu =
       let s = storeOf w in
       let k = stackNode z place n in
@@ -128,8 +131,10 @@ module _ {w z : List ℕ} {place n h : ℕ} (v : Missing w z place n h) where
       let g : GoodStore (k ∷ s) = good-more s k (v .pushed .live .good) (pushed-rise (v .pushed)) new-full (listing-below (stackState z) (stackParent z) place n (length s) e) (v .missing) f in
       let c : count w ≡ length s = live-count (v .pushed .live) in
       let i : Indexed (k ∷ s) u = rw eu (subst (λ (x : ℕ). Indexed (k ∷ s) (putIndex z x h)) (sym c) (index-add s k z h (omega (arith, f .0)) (v .hashed) (v .pushed .live .index))) in
-      let o = words-live w′ u (k ∷ s) g (ew ∙ ap (λ (x : List ℕ). written x s k) (v .pushed .live .words) ∙ sym (words-grown s k)) i in
-      record { number = c ∙ sym (ap (λ (y : ℕ × Store). y .0) made-is); store = o .0 ∙ sym (ap (λ (y : ℕ × Store). y .1) made-is); live = o .1; above = index-above u eu f }
+      let o = words-live w′ u (k ∷ s) g (ew ∙ ap (λ (x : List ℕ). written x s k) (v .pushed .live .words) ∙ sym (words-grown s k)) i in (
+        record { number = c ∙ sym (ap (λ (y : ℕ × Store). y .0) made-is); store = o .0 ∙ sym (ap (λ (y : ℕ × Store). y .1) made-is); live = o .1; above = index-above u eu f },
+        omega (arith, ap length (o .0)),
+      )
     where
       index-above : (u : List ℕ) → u ≡ putIndex z (count w) h → Fits (stackNode z place n ∷ storeOf w) → SameAbove z u
       index-above u eu f j l =
@@ -141,7 +146,7 @@ module _ {w z : List ℕ} {place n h : ℕ} (v : Missing w z place n h) where
   -- as the code has it, for one entry
   pub made-single : n ≡ 1 → count w < 512 → (p r : ℕ) → p ≡ stackParent z place → r ≡ stackState z place → (w′ u : List ℕ)
       → w′ ≡ putCounts (putRecord w (count w) 1 p r) (count w + 1) (used w) → u ≡ putIndex z (count w) h
-      → GrewTo z u w′ (intern (storeOf w) (stackNode z place n)) (count w)
+      → GrewTo z u w′ (intern (storeOf w) (stackNode z place n)) (count w) × More w 1 w′
   unfolding pool room
   made-single o l p r ep er w′ u ew eu =
       let s = storeOf w in
@@ -154,7 +159,7 @@ module _ {w z : List ℕ} {place n h : ℕ} (v : Missing w z place n h) where
   -- and for several
   pub made-array : 2 ≤ n → count w < 512 → n ≤ 2048 - used w → (w′ u : List ℕ)
       → w′ ≡ putCounts (putRecord (fill w (used w) (stackNode z place n)) (count w) 2 (used w) n) (count w + 1) (used w + n) → u ≡ putIndex z (count w) h
-      → GrewTo z u w′ (intern (storeOf w) (stackNode z place n)) (count w)
+      → GrewTo z u w′ (intern (storeOf w) (stackNode z place n)) (count w) × More w 1 w′
   unfolding pool
   made-array t l m w′ u ew eu =
       let s = storeOf w in
@@ -168,14 +173,14 @@ module _ {w z : List ℕ} {place n h : ℕ} (v : Missing w z place n h) where
   module _ (cr ur : ℕ) (ec : cr ≡ count w) (eu : ur ≡ used w) (w′ u : List ℕ) (ei : u ≡ putIndex z cr h) where
     pub read-single : n ≡ 1 → cr < 512 → (p r : ℕ) → p ≡ stackParent z place → r ≡ stackState z place → (w₁ : List ℕ)
         → w₁ ≡ putRecord w cr 1 p r → w′ ≡ putCounts w₁ (cr + 1) ur
-        → GrewTo z u w′ (intern (storeOf w) (stackNode z place n)) cr
+        → GrewTo z u w′ (intern (storeOf w) (stackNode z place n)) cr × More w 1 w′
     read-single o l p r ep er w₁ e₁ e₂ =
         let ew : w′ ≡ putCounts (putRecord w (count w) 1 p r) (count w + 1) (used w) = e₂ ∙ (rw (e₁, ec, eu)) in
         rw ec (made-single o (omega arith) p r ep er w′ u ew (ei ∙ rw ec))
 
     pub read-array : 2 ≤ n → cr < 512 → n ≤ 2048 - ur → (w₁ w₂ : List ℕ)
         → w₁ ≡ fill w ur (stackNode z place n) → w₂ ≡ putRecord w₁ cr 2 ur n → w′ ≡ putCounts w₂ (cr + 1) (ur + n)
-        → GrewTo z u w′ (intern (storeOf w) (stackNode z place n)) cr
+        → GrewTo z u w′ (intern (storeOf w) (stackNode z place n)) cr × More w 1 w′
     read-array t l m w₁ w₂ e₁ e₂ e₃ =
         let ew : w′ ≡ putCounts (putRecord (fill w (used w) (stackNode z place n)) (count w) 2 (used w) n) (count w + 1) (used w + n) = e₃ ∙ (rw (e₂, e₁, ec, eu)) in
         rw ec (made-array t (omega arith) (omega arith) w′ u ew (ei ∙ rw ec))

@@ -1,7 +1,7 @@
 -- What a call leaves, from what its parts leave: a state that is not placed, and a context that is made or has no room. Nothing here has to be believed.
 use mathlib.Core.Path.{_≡_, sym, ap, _∙_}
 use mathlib.Core.List.{List}
-use Prim.Native.Nat.{ℕ, _<_, _+_, _*_}
+use Prim.Native.Nat.{ℕ, _<_, _+_, _-_, _*_}
 use native.Mathlib.Omega.{arith}
 use lib.ListN.{length, replicate}
 use borrow.Author.Tests.{eq-eqb, ne-eqb, lt-ltb, le-ltb}
@@ -30,22 +30,25 @@ use Rattle.words.specs.declared.refusals.Refusal.{Refusal}
 use Rattle.store.specs.Admit.{Admits, cleared}
 use Rattle.store.specs.declared.inner.admit.Admitted.{Admitted}
 use Rattle.store.specs.declared.inner.admit.Admitted.the-variants.{Ready as ready, Refused}
-use Rattle.store.specs.Calls.{Reply, refused, context, Left, zeros, leaves}
+use Rattle.store.specs.Calls.{refused, context, Left, zeros, leaves, leavesAfter}
 use Rattle.store.specs.Nested.{grown}
-use Rattle.interning.specs.Live.{Live, Pushed, live-count, ready-live}
+use Rattle.interning.specs.Live.{Live, Pushed, GrewTo, live-count, ready-live}
 use Rattle.interning.specs.SingletonCall.Laws.{singleton-nested, ifState, placedSingle}
 use Rattle.interning.specs.SingletonCall.{singletonCall}
-use Rattle.interning.specs.Interned.{Interns, answered}
+use Rattle.interning.specs.Interned.{More, Interns, answered}
 use Rattle.interning.specs.Replies.{numbered}
-use Rattle.interning.specs.declared.inner.intern.Made.{Made}
-use Rattle.interning.specs.declared.inner.intern.Made.the-variants.{At, NoRoom}
+use Rattle.interning.specs.declared.inner.intern.Interned.{Interned}
+use Rattle.interning.specs.declared.inner.intern.Interned.the-variants.{Found, Made, NoRoom}
 
 -- ---- a context that is made, or no room
 
 module _ (w : List ℕ) (x : ℕ × Store) where
-  pub grown-fits : (w′ : List ℕ) (c : ℕ) → Fits (x .1) → c ≡ x .0 → w′ ≡ wordsOf (x .1) → leaves (context c) w′ zeros ≡ grown w x
+  pub grown-fits : (w′ : List ℕ) (c k : ℕ) → Fits (x .1) → c ≡ x .0 → w′ ≡ wordsOf (x .1) → length (storeOf w) + k ≡ length (x .1)
+      → leavesAfter 0 k (context c) w′ zeros ≡ grown w x
   unfolding grown
-  grown-fits w′ c f ec ew = rw (true-fits (x .1) f, grown, ec, ew)
+  grown-fits w′ c k f ec ew more =
+      let e : length (x .1) - length (storeOf w) ≡ k = omega (arith, more) in
+      rw (true-fits (x .1) f, grown, ec, ew, e)
 
   pub grown-full : (Fits (x .1) → ⊥) → leaves (refused 6) w zeros ≡ grown w x
   unfolding grown
@@ -110,16 +113,22 @@ module _ (w z : List ℕ) (v : Live w z) (p r : ℕ) (hp : p < count w) (hr : r 
 
 -- ---- what a call that interned leaves
 
-pub interned-left : (w z : List ℕ) (place n : ℕ) (x : ℕ × Store) (made : Made) (w′ u : List ℕ) → x ≡ intern (storeOf w) (stackNode z place n)
-    → Interns w z place n made w′ u → leaves (numbered (answered made)) w′ zeros ≡ grown w x
-interned-left w z place n x (At c) w′ u e g =
+grown-left : (w z : List ℕ) (y x : ℕ × Store) (c k : ℕ) (w′ u : List ℕ) → x ≡ y → GrewTo z u w′ y c → More w k w′
+    → leavesAfter 0 k (context c) w′ zeros ≡ grown w x
+grown-left w z y x c k w′ u e g more =
     let o : storeOf w′ ≡ x .1 = g .store ∙ ap (λ (y : ℕ × Store). y .1) (sym e) in
-    grown-fits w x w′ (c .0) (rw (← o) (g .live .good .fits)) (g .number ∙ ap (λ (y : ℕ × Store). y .0) (sym e)) (g .live .words ∙ ap wordsOf o)
+    grown-fits w x w′ c k (rw (← o) (g .live .good .fits)) (g .number ∙ ap (λ (y : ℕ × Store). y .0) (sym e)) (g .live .words ∙ ap wordsOf o) (more ∙ ap length o)
+
+pub interned-left : (w z : List ℕ) (place n : ℕ) (x : ℕ × Store) (r : Interned) (w′ u : List ℕ) → x ≡ intern (storeOf w) (stackNode z place n)
+    → Interns w z place n r w′ u → numbered (answered r 0) w′ zeros ≡ grown w x
+interned-left w z place n x (Found c) w′ u e g = grown-left w z _ x (c .0) 0 w′ u e (g .0) (g .1)
+interned-left w z place n x (Made c) w′ u e g = grown-left w z _ x (c .0) 1 w′ u e (g .0) (g .1)
 interned-left w z place n x NoRoom w′ u e g =
     ap (λ (y : List ℕ). leaves (refused 6) y zeros) (g .1) ∙ grown-full w x (λ f. g .0 (rw e at f))
 
-pub interned-length : (w z : List ℕ) (place n : ℕ) (made : Made) (w′ u : List ℕ) → length z ≡ scratchWords → Interns w z place n made w′ u → length u ≡ scratchWords
-interned-length w z place n (At c) w′ u l g = g .live .index .sized
+pub interned-length : (w z : List ℕ) (place n : ℕ) (r : Interned) (w′ u : List ℕ) → length z ≡ scratchWords → Interns w z place n r w′ u → length u ≡ scratchWords
+interned-length w z place n (Found c) w′ u l g = g .0 .live .index .sized
+interned-length w z place n (Made c) w′ u l g = g .0 .live .index .sized
 interned-length w z place n NoRoom w′ u l g = ap length (g .2) ∙ l
 
 -- ---- the singleton call, after its first checks

@@ -4,7 +4,7 @@ use mathlib.Core.Path.{_≡_, refl, sym, ap, _∙_}
 use mathlib.Core.Logic.{_↔_}
 use mathlib.Core.Bool.{Bool, true, false, not, _&&_, or-false}
 use mathlib.Core.List.{List, [], _∷_}
-use Prim.Native.Nat.{ℕ, _<_, _≤_}
+use Prim.Native.Nat.{ℕ, suc, _+_, _-_, _<_, _≤_}
 use native.Mathlib.Omega.{arith}
 use lib.Dec.{eqb, leb}
 use lib.ListN.{length}
@@ -12,13 +12,14 @@ use borrow.Author.Tests.{eq-eqb, ne-eqb, lt-leb, le-leb}
 use Rattle.cases.specs.Bools.{bool?, never-both}
 use Rattle.cases.specs.Numbers.{two, below?, never}
 use Rattle.words.specs.Names.{emptyMark}
+use Rattle.words.specs.Refusals.{number}
 use Rattle.stacks.specs.Forest.{Forest, none, mark, over, mem}
-use Rattle.arena.specs.Store.{Store, tree, at}
+use Rattle.arena.specs.Store.{Store, tree, push, end, at}
 use Rattle.arena.specs.Trees.{tree-canon}
 use Rattle.arena.specs.Identity.{tree-root}
 use Rattle.arena.specs.Stands.{stands}
 use Rattle.arena.specs.Place.{place}
-use Rattle.arena.specs.Placed.{grew-tree, place-grew, Holds, place-holds}
+use Rattle.arena.specs.Placed.{grew-tree, grew-length, place-grew, place-there, place-single, intern-one, Holds, place-holds}
 use Rattle.arena.specs.Numbering.{parts, Joins}
 use Rattle.arena.specs.Numbering.Laws.{place-numbers}
 use Rattle.arena.specs.Below.Laws.{tree-below, place-below}
@@ -35,8 +36,9 @@ use Rattle.encoding.specs.Decide.Laws.{sound-true, words-sound}
 use Rattle.encoding.specs.Written.{words-count}
 use Rattle.store.specs.Checks.{order, due}
 use Rattle.store.specs.Checks.Laws.{inOrder}
-use Rattle.store.specs.Calls.{refused, Left, leaves, refusal, made, madeAfter, Accepts}
-use Rattle.store.specs.Calls.Laws.{determined, refused-exactly, refused-leaves, accepted, right-lengths, is-sound, is-known, has-room}
+use Rattle.store.specs.Calls.{refused, Left, refusal, gives, givesAfter, Accepts}
+use Rattle.store.specs.Calls.Laws.{determined, same-context, not-context, refused-exactly, refused-leaves, accepted, right-lengths, is-sound, is-known, has-room}
+use Rattle.store.specs.Calls.Laws.{accepted-made, made-exactly, found-exactly}
 use Rattle.store.specs.Told.{number-tells}
 use Rattle.interning.specs.SingletonCall.{singleS, singletonChecks, singletonCall}
 use Rattle.interning.specs.SingletonCall.Laws.{single-mark, single-state}
@@ -75,7 +77,7 @@ module _ (w z : List ℕ) (p r : ℕ) (c : ℕ) (w′ : List ℕ) (ok : Accepts 
   passed : Passed
   unfolding singletonCall singletonChecks
   passed =
-      let a = accepted w z _ 0 (singleS (storeOf w) p r) c w′ ok in
+      let a = accepted w z _ 0 (storeOf w) (singleS (storeOf w) p r) c w′ ok in
       let l = right-lengths w z (a .0 .0) .0 in
       let s = is-sound w z (a .0 .1 .0) in
       let d = decoded w l (sound-true w l s) in record {
@@ -169,9 +171,42 @@ module _ (w z : List ℕ) (p r : ℕ) (c : ℕ) (w′ : List ℕ) (ok : Accepts 
       let a = placed-after e h .0 in
       let old : k < length (storeOf w) = rw (store-length w (contexts w)) l in
       let g = place-grew (storeOf w) raised in
-      let more : length (storeOf w) ≤ length (storeOf w′) = rw (a .store) (Rattle.arena.specs.Placed.grew-length (storeOf w) _ g) in
+      let more : length (storeOf w) ≤ length (storeOf w′) = rw (a .store) (grew-length (storeOf w) _ g) in
       let there : k < length (storeOf w′) = omega arith in
       (rw (store-length w′ (contexts w′)) at there, λ σ. ap (λ (F : Forest). mem F σ) ((rw (a .store)) ∙ grew-tree (storeOf w) _ g k old)))
+
+  -- the contexts that there are more than before
+  single-grew : contexts w + (length (singleS (storeOf w) p r .1) - length (storeOf w)) ≡ contexts w′
+  unfolding raised
+  single-grew =
+      state?
+      (λ e. rw (single-mark (storeOf w) p r e, ← mark-after e .1) (omega arith))
+      (λ e l.
+      let a = placed-after e l .0 in
+      let more = grew-length (storeOf w) _ (place-grew (storeOf w) raised) in
+      let n : length (place (storeOf w) raised .1) ≡ contexts w′ = sym (ap length (a .store)) ∙ store-length w′ (contexts w′) in
+      rw (single-state (storeOf w) p r e) (omega (arith, n, more, store-length w (contexts w))))
+
+  -- where the number was there before, nothing is made
+  single-there : c < contexts w → w′ ≡ w
+  unfolding raised
+  single-there h =
+      state?
+      (λ e. sym (mark-after e .1))
+      (λ e l.
+      let s = storeOf w in
+      let old : c < length s = rw (store-length w (contexts w)) h in
+      let n = placed-after e l .1 in
+      let is : tree s c ≡ raised = sym (grew-tree s _ (place-grew s raised) c old) ∙ ap (tree (place s raised .1)) (sym n) ∙ placed-holds .is in
+      sym (passed .after) ∙ ap (λ (x : ℕ × Store). wordsOf (x .1)) (single-state s p r e ∙ place-there s (passed .good .sound) c raised old is)
+      ∙ sym (passed .words))
+
+  -- one context at most is made
+  single-one : length (singleS (storeOf w) p r .1) ≤ suc (length (storeOf w))
+  single-one =
+      state?
+      (λ e. rw (single-mark (storeOf w) p r e) (omega arith))
+      (λ e l. rw (single-state (storeOf w) p r e, place-single (storeOf w) (passed .good .sound) r p hp) (intern-one (storeOf w) (push r p end)))
 
   -- "New contexts take the next number": the parts of the set, in the order in which they are complete, each unless a context stands for it
   pub single-numbers : r < stop → Joins (storeOf w) (parts (over r (tree (storeOf w) p) none)) (storeOf w′)
@@ -181,19 +216,39 @@ module _ (w z : List ℕ) (p r : ℕ) (c : ℕ) (w′ : List ℕ) (ok : Accepts 
       let v = tree-canon (storeOf w) (passed .good .sound) p hp in
       rw (a .store) (place-numbers (storeOf w) (over r (tree (storeOf w) p) none) (passed .good .sound) (omega arith, v .0, v .1, tt) tt)
 
+-- "how many contexts the call made: exactly the count after less the count before"
+pub singleton-figure : (w z : List ℕ) (p r : ℕ) → contexts w + singletonCall w z p r .made ≡ contexts (singletonCall w z p r .store)
+unfolding singletonCall
+singleton-figure w z p r =
+    made-exactly w z (singletonChecks w z p r) 0 (storeOf w) (singleS (storeOf w) p r) (λ ok. single-grew w z p r _ _ ok)
+
+-- "whether the context was found or made": the figure is 0 exactly if the number was there before, and else 1
+module _ (w z : List ℕ) (p r : ℕ) (c : ℕ) (w′ : List ℕ) (ok : Accepts (singletonCall w z p r) c w′) where
+  figure : contexts w + singletonCall w z p r .made ≡ contexts w′
+  figure = singleton-figure w z p r ∙ ap contexts (ok .1)
+
+  pub singleton-found : (singletonCall w z p r .made ≡ 0) ↔ (c < contexts w)
+  singleton-found = found-exactly w w′ c _ figure (single-sound-after w z p r c w′ ok .2) (single-there w z p r c w′ ok)
+
+  pub singleton-one : singletonCall w z p r .made ≤ 1
+  unfolding singletonCall
+  singleton-one =
+      let s = storeOf w in
+      rw (accepted-made w z (singletonChecks w z p r) 0 s (singleS s p r) c w′ ok) (omega (arith, single-one w z p r c w′ ok))
+
 -- ---- a refused singleton: exactly when, and with nothing changed
 
-pub no-refusal : (k : ℕ) (x : ℕ × Store) (n : ℕ) → madeAfter k x .reply ≡ refused n → ⊥
-no-refusal k x n e = never (cc)
+pub no-refusal : (k : ℕ) (s : Store) (x : ℕ × Store) (n : ℕ) → givesAfter k s x .reply ≡ refused n → ⊥
+no-refusal k s x n e = never (cc)
 
 module _ (w z : List ℕ) (p r n : ℕ) where
   pub singleton-refused-exactly : (singletonCall w z p r .reply ≡ refused n) ↔ (due (singletonChecks w z p r) ≡ at n)
   unfolding singletonCall
-  singleton-refused-exactly = let x = singleS (storeOf w) p r in refused-exactly w z (singletonChecks w z p r) (made x) (no-refusal 0 x) n
+  singleton-refused-exactly = let x = singleS (storeOf w) p r in refused-exactly w z (singletonChecks w z p r) (gives (storeOf w) x) (no-refusal 0 (storeOf w) x) n
 
   pub singleton-refused-leaves : singletonCall w z p r .reply ≡ refused n → singletonCall w z p r ≡ refusal w z n
   unfolding singletonCall
-  singleton-refused-leaves = let x = singleS (storeOf w) p r in refused-leaves w z (singletonChecks w z p r) (made x) (no-refusal 0 x) n
+  singleton-refused-leaves = let x = singleS (storeOf w) p r in refused-leaves w z (singletonChecks w z p r) (gives (storeOf w) x) (no-refusal 0 (storeOf w) x) n
 
   pub singleton-in-order : inOrder order (singletonChecks w z p r) ≡ true
   unfolding singletonChecks inOrder
@@ -201,19 +256,26 @@ module _ (w z : List ℕ) (p r n : ℕ) where
 
 -- ---- any two outcomes that satisfy a contract for the same input are equal: the answer, case and value, and every word
 
-numbered-tells : (a b : Numbered) → numbered a ≡ numbered b → a ≡ b
-numbered-tells (Number c) (Number d) e =
-    let n : c .0 ≡ d .0 = cc in
-    ap (λ (k : ℕ). Number (record { 0 = k })) n
-numbered-tells (Number c) (Refused g) e = cc
-numbered-tells (Refused f) (Number d) e = cc
-numbered-tells (Refused f) (Refused g) e = ap Refused (number-tells f g e)
+module _ (u v y z : List ℕ) where
+  numbered-tells : (a b : Numbered) → numbered a u y ≡ numbered b v z → a ≡ b
+  numbered-tells (Number c k) (Number d j) e =
+      let n : c .0 ≡ d .0 = same-context (c .0) (d .0) (ap (λ (o : Left). o .reply) e) in
+      ap (λ (i : ℕ). Number (record { 0 = i }) k) n ∙ ap (Number d) (ap (λ (o : Left). o .made) e)
+  numbered-tells (Number c k) (Refused g) e = absurd (not-context (number g) (c .0) (ap (λ (o : Left). o .reply) e))
+  numbered-tells (Refused f) (Number d j) e = absurd (not-context (number f) (d .0) (sym (ap (λ (o : Left). o .reply) e)))
+  numbered-tells (Refused f) (Refused g) e = ap Refused (number-tells f g (ap (λ (o : Left). o .reply) e))
 
-pub call-determined : (x : Left) (a b : Numbered) (u v y z : List ℕ) → leaves (numbered a) u y ≡ x → leaves (numbered b) v z ≡ x → (a ≡ b) × (u ≡ v) × (y ≡ z)
-call-determined x a b u v y z p q =
-    let e = determined (leaves (numbered a) u y) (leaves (numbered b) v z) x p q in
-    (numbered-tells a b (ap (λ (o : Left). o .reply) e), ap (λ (o : Left). o .store) e, ap (λ (o : Left). o .scratch) e)
+  numbered-words : (a : Numbered) → (numbered a u y .store ≡ u) × (numbered a u y .scratch ≡ y)
+  numbered-words (Number c k) = (refl, refl)
+  numbered-words (Refused f) = (refl, refl)
 
 pub singleton-determined : (w z : List ℕ) (p r : ℕ) (a b : Numbered) (u v y x : List ℕ)
-    → leaves (numbered a) u y ≡ singletonCall w z p r → leaves (numbered b) v x ≡ singletonCall w z p r → (a ≡ b) × (u ≡ v) × (y ≡ x)
-singleton-determined w z p r a b u v y x = call-determined (singletonCall w z p r) a b u v y x
+    → numbered a u y ≡ singletonCall w z p r → numbered b v x ≡ singletonCall w z p r → (a ≡ b) × (u ≡ v) × (y ≡ x)
+singleton-determined w z p r a b u v y x i j =
+    let e = determined (numbered a u y) (numbered b v x) (singletonCall w z p r) i j in
+    let one = numbered-words u v y x a in
+    let other = numbered-words v u x y b in (
+      numbered-tells u v y x a b e,
+      sym (one .0) ∙ ap (λ (o : Left). o .store) e ∙ other .0,
+      sym (one .1) ∙ ap (λ (o : Left). o .scratch) e ∙ other .1,
+    )

@@ -11,7 +11,7 @@ use Rattle.arena.specs.Place.{place}
 use Rattle.layout.specs.Layout.{stop}
 use Rattle.layout.specs.Decode.{storeOf}
 use Rattle.store.specs.Checks.{Check, given, unless}
-use Rattle.store.specs.Calls.{Left, refusal, wrongLength, unsoundStore, unknownContext, noRoom, made}
+use Rattle.store.specs.Calls.{Left, refusal, wrongLength, unsoundStore, unknownContext, noRoom, gives}
 
 -- r on top of each stack of p; "the empty mark 18446744073709551615 answers 0"
 unfoldable pub singleS : Store → ℕ → ℕ → ℕ × Store
@@ -23,4 +23,4 @@ singletonChecks w z p r =
     wrongLength w z ∷ unsoundStore w ∷ unknownContext w p ∷ given 5 (leb stop r && not (eqb r emptyMark)) ∷ noRoom (singleS (storeOf w) p r .1) ∷ []
 
 unfoldable pub singletonCall : List ℕ → List ℕ → ℕ → ℕ → Left
-singletonCall w z p r = unless (singletonChecks w z p r) (refusal w z) (made (singleS (storeOf w) p r))
+singletonCall w z p r = unless (singletonChecks w z p r) (refusal w z) (gives (storeOf w) (singleS (storeOf w) p r))

@@ -1,5 +1,5 @@
 // A return state placed on top of each stack of a context.
-use crate::inner::intern::Made;
+use crate::inner::intern::Interned;
 use crate::inner::intern::intern_entries;
 use store::inner::admit::Admitted;
 use store::inner::admit::admit;
@@ -9,28 +9,29 @@ use words::ContextId;
 use words::Refusal;
 use words::ReturnState;
 ghost use mathlib.Core.Path.{_≡_};
-ghost use Prim.Native.Nat.{_<_};
-ghost use Rattle.layout.specs.Layout.{count, stop};
-ghost use Rattle.store.specs.Calls.{leaves};
+ghost use Prim.Native.Nat.{_<_, _≤_};
+ghost use Rattle.layout.specs.Layout.{count, mostContexts, stop};
 ghost use Rattle.interning.specs.SingletonCall.Laws.{placedSingle};
 ghost use Rattle.interning.specs.SingletonCall.{singletonCall};
 ghost use Rattle.interning.specs.Live.{Live};
 ghost use Rattle.interning.specs.Interned.{answered};
 ghost use Rattle.interning.specs.Replies.{numbered};
 
-// What a call that may make a context answers.
+// What a call that may make contexts answers: the context's number, and how many were made.
 pub enum Numbered {
-    Number(ContextId),
+    Number(ContextId, u32),
     Refused(Refusal),
 }
 
-// The answer of a call that has made its context, or had no room for it.
-pub fn answer(made: Made) -> Numbered
-    ensures { λ r. ⌜ r ≡ answered made ⌝ }
+// The answer of a call that has interned its context and made `made` others before it, or had no room.
+pub fn answer(interned: Interned, made: u32) -> Numbered
+    requires { ⌜ made ≤ mostContexts ⌝ }
+    ensures { λ r. ⌜ r ≡ answered interned made ⌝ }
 {
-    match made {
-        Made::At(context) => Numbered::Number(context),
-        Made::NoRoom => Numbered::Refused(Refusal::FullStore),
+    match interned {
+        Interned::Found(context) => Numbered::Number(context, made),
+        Interned::Made(context) => Numbered::Number(context, made + 1),
+        Interned::NoRoom => Numbered::Refused(Refusal::FullStore),
     }
 }
 
@@ -42,12 +43,12 @@ fn place_single(
     state: CompactState,
 ) -> Numbered
     requires { ⌜ Live (now store) (now scratch) × (parent .0 < count (now store)) × (state .0 < stop) ⌝ }
-    ensures { λ r. ⌜ leaves (numbered r) (now (store .exit)) (now (scratch .exit)) ≡ placedSingle (now (store .entry)) (parent .0) (state .0) ⌝ }
+    ensures { λ r. ⌜ numbered r (now (store .exit)) (now (scratch .exit)) ≡ placedSingle (now (store .entry)) (parent .0) (state .0) ⌝ }
 {
     index::put_entry(scratch, 0, parent.0, state.0);
-    let made = intern_entries(store, scratch, 0, 1);
+    let interned = intern_entries(store, scratch, 0, 1);
     words::clear(scratch);
-    answer(made)
+    answer(interned, 0)
 }
 
 // The context of `state` over `parent`. Refused 2, 1, 4, 5 or 6, in this order of checking.
@@ -57,7 +58,7 @@ pub fn singleton(
     parent: ContextId,
     state: ReturnState,
 ) -> Numbered
-    ensures { λ r. ⌜ leaves (numbered r) (now (store .exit)) (now (scratch .exit)) ≡ singletonCall (now (store .entry)) (now (scratch .entry)) (parent .0) (state .0) ⌝ }
+    ensures { λ r. ⌜ numbered r (now (store .exit)) (now (scratch .exit)) ≡ singletonCall (now (store .entry)) (now (scratch .entry)) (parent .0) (state .0) ⌝ }
 {
     let admitted = admit(store, scratch, parent);
     if let Admitted::Refused(refusal) = admitted {
@@ -67,7 +68,7 @@ pub fn singleton(
     match compact {
         Compacted::Mark => {
             words::clear(scratch);
-            Numbered::Number(ContextId(0))
+            Numbered::Number(ContextId(0), 0)
         }
         Compacted::OutOfRange => {
             words::clear(scratch);

@@ -23,17 +23,21 @@ spaced n = 32 ∷ decimal n
 abbrev pub numberLine : ℕ → ℕ → List ℕ
 numberLine letter n = letter ∷ spaced n ++ 10 ∷ []
 
--- "`C` number"
-unfoldable pub contextLine : ℕ → List ℕ
-contextLine n = numberLine 67 n
+-- a letter, two numbers, a line end
+abbrev pub numbersLine : ℕ → ℕ → ℕ → List ℕ
+numbersLine letter n k = letter ∷ spaced n ++ spaced k ++ 10 ∷ []
+
+-- "`C` number"; then how many contexts the call made: "`C` and `A` lines get this figure as a last field" (request A3)
+unfoldable pub contextLine : ℕ → ℕ → List ℕ
+contextLine c made = numbersLine 67 c made
 
 -- "`N`"
 unfoldable pub newSetLine : List ℕ
 newSetLine = 78 ∷ 10 ∷ []
 
--- "`A` 1 inserted or 0 merged"
-unfoldable pub addedLine : ℕ → List ℕ
-addedLine n = numberLine 65 n
+-- "`A` 1 inserted or 0 merged"; then how many contexts the call made
+unfoldable pub addedLine : ℕ → ℕ → List ℕ
+addedLine n made = numbersLine 65 n made
 
 -- "`S` states held"
 unfoldable pub stopsLine : ℕ → List ℕ
@@ -85,4 +89,4 @@ entriesLine n = 69 ∷ spaced (size n) ++ entriesBytes n ++ 10 ∷ []
 
 -- "The end line is `T` contexts, pool entries": words 0 and 1 of the store
 unfoldable pub endLine : List ℕ → List ℕ
-endLine w = 84 ∷ spaced (count w) ++ spaced (used w) ++ 10 ∷ []
+endLine w = numbersLine 84 (count w) (used w)

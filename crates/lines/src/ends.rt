@@ -1,6 +1,5 @@
 // The end line of a script.
-use crate::inner::digits::put_byte;
-use crate::inner::digits::put_spaced;
+use crate::inner::numbers::lay_numbers;
 use layout::STORE_WORDS;
 ghost use Rattle.lines.specs.Laid.{Wrote};
 ghost use Rattle.lines.specs.Lines.{endLine};
@@ -14,8 +13,5 @@ pub fn lay_end(out: &mut [u8; LINE_BYTES], store: &[u32; STORE_WORDS]) -> usize
 {
     let contexts = layout::count_of(store);
     let entries = layout::used_of(store);
-    let at = put_byte(out, 0, b'T');
-    let at = put_spaced(out, at, contexts);
-    let at = put_spaced(out, at, entries);
-    put_byte(out, at, b'\n')
+    lay_numbers(out, b'T', contexts, entries)
 }

@@ -16,6 +16,7 @@ use Rattle.layout.specs.Encode.{wordsOf}
 use Rattle.encoding.specs.Good.{GoodStore}
 use Rattle.encoding.specs.Written.{words-length}
 use Rattle.interning.specs.Live.{Live, live-length}
+use Rattle.interning.specs.Interned.{More}
 use Rattle.work.specs.Counted.{State, standing, Outcome, done, refused, andThen, walk, interned, counted}
 use Rattle.work.specs.After.{Good}
 use Rattle.cache.specs.Cache.{CacheSound, keptOf, mergesCounted}
@@ -62,19 +63,14 @@ pub record Stuck (w v u : List ℕ) : Type 0 where
   pub words : v ≡ wordsOf (storeOf v)
   pub sized : length u ≡ scratchWords
 
--- what a merge with the outcome o leaves
+-- what a merge with the outcome o leaves, k contexts more than before
 abbrev pub Ended : List ℕ → List ℕ → ℕ → Outcome ℕ → Numbered → List ℕ → List ℕ → Type 0
-Ended w z top o (Number c) v u = Reached z top o (c .0) v u
+Ended w z top o (Number c k) v u = Reached z top o (c .0) v u × More w k v
 Ended w z top o (Refused f) v u = (o ≡ refused (number f)) × Stuck w v u
 
 -- seen from an earlier place
 pub stuck-from : (w₀ w v u : List ℕ) → Grew (storeOf w₀) (storeOf w) → Stuck w v u → Stuck w₀ v u
 stuck-from w₀ w v u g s = record { grew = grew-trans (storeOf w₀) (storeOf w) (storeOf v) g (s .grew); good = s .good; words = s .words; sized = s .sized }
-
-pub ended-from : (w₀ z₀ w z : List ℕ) (top : ℕ) → Grew (storeOf w₀) (storeOf w) → SameStack z₀ z top
-    → (o : Outcome ℕ) (r : Numbered) (v u : List ℕ) → Ended w z top o r v u → Ended w₀ z₀ top o r v u
-ended-from w₀ z₀ w z top g s o (Number c) v u e = record { is = e .is; live = e .live; cache = e .cache; between = λ i a b. e .between i a b ∙ s i a b }
-ended-from w₀ z₀ w z top g s o (Refused f) v u e = (e .0, stuck-from w₀ w v u g (e .1))
 
 -- ---- by wildcard a side is the empty context; or not
 
@@ -104,5 +100,5 @@ state-moved w z u s v = rw (kept-same z u (s .inside) (s .after 16336 (omega ari
 -- whatever the answer, lengths are kept
 pub ended-lengths : {w z : List ℕ} {a b top : ℕ} → Mergeable w z a b top → (o : Outcome ℕ) (r : Numbered) (v u : List ℕ) → Ended w z top o r v u
     → (length v ≡ storeWords) × (length u ≡ scratchWords)
-ended-lengths m o (Number c) v u g = (live-length (g .live), g .live .index .sized)
+ended-lengths m o (Number c k) v u g = (live-length (g .0 .live), g .0 .live .index .sized)
 ended-lengths m o (Refused f) v u g = (ap length (g .1 .words) ∙ words-length (storeOf v), g .1 .sized)

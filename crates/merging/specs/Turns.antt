@@ -12,9 +12,10 @@ use Rattle.arena.specs.Kinds.{size}
 use Rattle.arena.specs.Place.{mergeS, intern}
 use Rattle.arena.specs.Placed.{Grew, grew-length, grew-trans}
 use Rattle.arena.specs.Steps.{merge-holds}
+use Rattle.layout.specs.Layout.{mostContexts}
 use Rattle.layout.specs.Decode.{storeOf}
 use Rattle.index.specs.Writes.{putEntry}
-use Rattle.interning.specs.Interned.{answered}
+use Rattle.interning.specs.Interned.{More, answered}
 use Rattle.store.specs.Asks.{Known}
 use Rattle.work.specs.Counted.{State, Outcome, done, refused, andThen, walk, interned, counted}
 use Rattle.work.specs.Heads.{headState, headParent}
@@ -30,10 +31,10 @@ use Rattle.entries.specs.Rest.{Finishing, Extends, whole}
 use Rattle.entries.specs.declared.pairs.Entry.{Entry}
 use Rattle.entries.specs.Laying.{ahead}
 use Rattle.merging.specs.Ends.{ends, ends-grew}
-use Rattle.merging.specs.Standing.{stateOf, walked, Mergeable, Apart, Reached, Stuck, Ended, stuck-from, ended-from}
+use Rattle.merging.specs.Standing.{stateOf, walked, Mergeable, Apart, Reached, Stuck, Ended, stuck-from}
 use Rattle.merging.specs.Walking.{Sorted, Walking, exchanged, walking-start, take-left, take-both, no-inner, right-done, extended}
 use Rattle.merging.specs.Sides.{sorted-of, head-before, head-le, size-ends, head-ends, later-below, later-known, later-node}
-use Rattle.interning.specs.declared.inner.intern.Made.{Made}
+use Rattle.interning.specs.declared.inner.intern.Interned.{Interned}
 
 -- a and b of w₀ are merged: i and j entries are taken, n are on the stack
 abbrev pub Go : Bool → List ℕ → List ℕ → ℕ → ℕ → ℕ → List ℕ → List ℕ → ℕ → ℕ → ℕ → Type 0
@@ -104,6 +105,10 @@ module _ {w₀ z₀ : List ℕ} {a b top : ℕ} (f : Apart w₀ z₀ a b top) wh
     pub left-known : Known w a
     left-known = later-known w₀ a (v₀ .left) (g .live) (g .grew)
 
+    -- no more contexts were made than there can be
+    pub few-made : (k : ℕ) → More w₀ k w → k ≤ mostContexts
+    few-made k more = omega (arith, more, g .live .good .fits .0)
+
     pub left-is : nodeAt (storeOf w) a ≡ A
     left-is = later-node w₀ a (v₀ .left) (g .live) (g .grew)
 
@@ -119,11 +124,11 @@ module _ {w₀ z₀ : List ℕ} {a b top : ℕ} (f : Apart w₀ z₀ a b top) wh
         room = rw left-is (omega (arith, fitting, g .few));
       }
 
-      pub left-ended : (r : Made) (w′ u : List ℕ) → Extends w z top (whole w z a i top n) r w′ u
-          → Ended w₀ z₀ top (walked m (stateOf w₀ z₀) a b) (answered r) w′ u
-      left-ended r w′ u x =
-          ended-from w₀ z₀ w z top (g .grew) (g .between) (walked m (stateOf w₀ z₀) a b) (answered r) w′ u
-          (rw (right-done sa sb g hj, ← left-is) (extended w z top (ahead z top n (rest (nodeAt (storeOf w) a) i)) (g .cache) (g .live) r w′ u x))
+      pub left-ended : (k : ℕ) → More w₀ k w → (r : Interned) (w′ u : List ℕ) → Extends w z top (whole w z a i top n) r w′ u
+          → Ended w₀ z₀ top (walked m (stateOf w₀ z₀) a b) (answered r k) w′ u
+      left-ended k more r w′ u x =
+          rw (right-done sa sb g hj, ← left-is)
+          (extended w₀ z₀ w z top k (ahead z top n (rest (nodeAt (storeOf w) a) i)) (g .grew) (g .between) more (g .cache) (g .live) r w′ u x)
 
     module _ {l r : Entry} (h : Heads w₀ a b i j l r) where
       -- there is a place on the stack for the next entry

@@ -21,7 +21,7 @@ use Rattle.encoding.specs.Decide.{fits}
 use Rattle.encoding.specs.Decide.Laws.{true-fits, fits-false}
 use Rattle.index.specs.Writes.{putEntry}
 use Rattle.interning.specs.Live.{Live}
-use Rattle.interning.specs.Interned.{answered}
+use Rattle.interning.specs.Interned.{More, answered}
 use Rattle.work.specs.Counted.{State, standing, Outcome, done, refused, andThen, walk, interned, counted}
 use Rattle.work.specs.Equations.{onward, onward-same, onward-onward, walk-end, merge-equal}
 use Rattle.work.specs.Exchange.{counted-even, walk-even}
@@ -32,10 +32,10 @@ use Rattle.cache.specs.Frames.{cache-frame}
 use Rattle.entries.specs.EntriesFrom.{rest, rest-next, rest-size, rest-none, size-full, rest-rise, rest-below, head-rises, head-most, head-older, head-dollar}
 use Rattle.entries.specs.StackEntry.{SameStack, Under, under-le, moved-entries, moved-under, moved-onto}
 use Rattle.entries.specs.Laying.{Stacks, ahead, SameBelow, Next, Laid, lay}
-use Rattle.entries.specs.Rest.{Extends}
+use Rattle.entries.specs.Rest.{Extended, Extends}
 use Rattle.merging.specs.Standing.{stateOf, SameCache, state-moved, Reached, Stuck, Ended}
-use Rattle.interning.specs.declared.inner.intern.Made.{Made}
-use Rattle.interning.specs.declared.inner.intern.Made.the-variants.{At, NoRoom}
+use Rattle.interning.specs.declared.inner.intern.Interned.{Interned}
+use Rattle.interning.specs.declared.inner.intern.Interned.the-variants.{Found, Made, NoRoom}
 
 -- the entries of a record of a sound store
 pub record Sorted (s : Store) (n : Node) : Type 0 where
@@ -240,31 +240,39 @@ module _ {m : Bool} {t₀ : State} {n₀ k₀ : Node} {top : ℕ} {z₀ w z : Li
 
 -- ---- from what interning leaves to what the walk leaves
 
-pub extended : (w z : List ℕ) (top : ℕ) (x : Node) → CacheSound z → Live w z → (r : Made) (w′ u : List ℕ)
-    → Extends w z top (intern (storeOf w) x) r w′ u → Ended w z top (interned x (stateOf w z)) (answered r) w′ u
-unfolding interned
-extended w z top x v l (At d) w′ u g =
-    let s : SameCache z u = record { inside = λ i a b. g .same i a (omega arith); after = g .after } in
-    let f : fits (intern (storeOf w) x .1) ≡ true = true-fits (intern (storeOf w) x .1) (rw (← g .store) (g .live .good .fits)) in
-    let kept = keptOf z in
-    let counts = mergesCounted z in
-    let made : interned x (stateOf w z) ≡ done (intern (storeOf w) x .0) (standing (intern (storeOf w) x .1) kept counts) = rw (f, interned) in
+-- w₀ and z₀ are the words before the walk, in which k contexts were made
+module _ (w₀ z₀ w z : List ℕ) (top k : ℕ) (x : Node) (grew : Grew (storeOf w₀) (storeOf w)) (between : SameStack z₀ z top) (more : More w₀ k w)
+    (v : CacheSound z) (l : Live w z) where
+  reached : (d : ℕ) (w′ u : List ℕ) → Extended z top (intern (storeOf w) x) d w′ u → Reached z₀ top (interned x (stateOf w z)) d w′ u
+  unfolding interned
+  reached d w′ u g =
+      let s : SameCache z u = record { inside = λ i a b. g .same i a (omega arith); after = g .after } in
+      let f : fits (intern (storeOf w) x .1) ≡ true = true-fits (intern (storeOf w) x .1) (rw (← g .store) (g .live .good .fits)) in
+      let kept = keptOf z in
+      let counts = mergesCounted z in
+      let made : interned x (stateOf w z) ≡ done (intern (storeOf w) x .0) (standing (intern (storeOf w) x .1) kept counts) = rw (f, interned) in
+      record {
+        is =
+            made
+            ∙ ap (λ (c : ℕ). done c (standing (intern (storeOf w) x .1) kept counts)) (sym (g .number))
+            ∙ ap (λ (q : Store). done d (standing q kept counts)) (sym (g .store))
+            ∙ ap (done d) (sym (state-moved w′ z u s v));
+        live = g .live;
+        cache = cache-frame z u (s .inside) (s .after 16336 (omega arith)) v;
+        between = λ i a b. g .same i (omega arith) b ∙ between i a b;
+      }
+
+  pub extended : (r : Interned) (w′ u : List ℕ) → Extends w z top (intern (storeOf w) x) r w′ u
+      → Ended w₀ z₀ top (interned x (stateOf w z)) (answered r k) w′ u
+  unfolding interned
+  extended (Found d) w′ u g = (reached (d .0) w′ u (g .0), omega (arith, more, g .1))
+  extended (Made d) w′ u g = (reached (d .0) w′ u (g .0), omega (arith, more, g .1))
+  extended NoRoom w′ u g = (
+    rw (fits-false (intern (storeOf w) x .1) (g .0), interned),
     record {
-      is =
-          made
-          ∙ ap (λ (c : ℕ). done c (standing (intern (storeOf w) x .1) kept counts)) (sym (g .number))
-          ∙ ap (λ (q : Store). done (d .0) (standing q kept counts)) (sym (g .store))
-          ∙ ap (done (d .0)) (sym (state-moved w′ z u s v));
-      live = g .live;
-      cache = cache-frame z u (s .inside) (s .after 16336 (omega arith)) v;
-      between = λ i a b. g .same i (omega arith) b;
-    }
-extended w z top x v l NoRoom w′ u g = (
-  rw (fits-false (intern (storeOf w) x .1) (g .0), interned),
-  record {
-    grew = rw (g .1) (grew-refl (storeOf w));
-    good = rw (g .1) (l .good);
-    words = rw (g .1) (l .words);
-    sized = g .2;
-  },
-)
+      grew = rw (g .1) grew;
+      good = rw (g .1) (l .good);
+      words = rw (g .1) (l .words);
+      sized = g .2;
+    },
+  )

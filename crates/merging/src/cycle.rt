@@ -24,7 +24,8 @@ fn swallows(left: ContextId, right: ContextId, root_is_wildcard: bool) -> bool
     right.0 == 0
 }
 
-// The context of the merge of two contexts' sets, counted unless the numbers are equal or the result was kept.
+// The context of the merge of two contexts' sets, counted unless the numbers are equal or the result was kept;
+// and how many contexts were made.
 pub fn merge(
     store: &mut [u32],
     scratch: &mut [u32],
@@ -38,25 +39,25 @@ pub fn merge(
         (counted «root_is_wildcard» (stateOf (now (store .entry)) (now (scratch .entry))) (left .0) (right .0)) r (now (store .exit)) (now (scratch .exit)) ⌝ }
 {
     if left.0 == right.0 {
-        return Numbered::Number(left);
+        return Numbered::Number(left, 0);
     }
     let known = cache::cached(scratch, left, right, root_is_wildcard);
     if let Recall::As(context) = known {
-        return Numbered::Number(context);
+        return Numbered::Number(context, 0);
     }
     if !cache::count_merge(scratch) {
         return Numbered::Refused(Refusal::TooMuchWork);
     }
     if swallows(left, right, root_is_wildcard) {
         cache::remember(scratch, left, right, root_is_wildcard, ContextId(0));
-        return Numbered::Number(ContextId(0));
+        return Numbered::Number(ContextId(0), 0);
     }
     let merged = merge_entries(store, scratch, left, right, root_is_wildcard, top);
-    let Numbered::Number(context) = merged else {
+    let Numbered::Number(context, made) = merged else {
         return merged;
     };
     cache::remember(scratch, left, right, root_is_wildcard, context);
-    Numbered::Number(context)
+    Numbered::Number(context, made)
 }
 
 // The entries of both sides in rising order of state, interned; beneath a state on both sides stands the merge of what stood beneath.
@@ -77,9 +78,13 @@ fn merge_entries(
     let mut left_index = 0;
     let mut right_index = 0;
     let mut n = 0;
+    let mut made = 0;
     while left_index < left_len {
         if right_len <= right_index {
-            return answer(intern_with_rest(store, scratch, left, left_index, top, n));
+            return answer(
+                intern_with_rest(store, scratch, left, left_index, top, n),
+                made,
+            );
         }
         let left_entry = entry(store, left, left_index);
         let right_entry = entry(store, right, right_index);
@@ -103,13 +108,17 @@ fn merge_entries(
             root_is_wildcard,
             top + n,
         );
-        let Numbered::Number(parent) = merged else {
+        let Numbered::Number(parent, beneath) = merged else {
             return merged;
         };
         index::put_entry(scratch, top + n, parent.0, left_entry.state.0);
         left_index += 1;
         right_index += 1;
         n += 1;
+        made += beneath;
     }
-    answer(intern_with_rest(store, scratch, right, right_index, top, n))
+    answer(
+        intern_with_rest(store, scratch, right, right_index, top, n),
+        made,
+    )
 }

@@ -29,7 +29,8 @@ module _ (l : Lent) (w : length (l .store) ≡ storeWords) (v : length (l .set) 
 pub end : (s : List ℕ) → scriptReplies s ≡ runOf s .reply ++ endLine (runOf s .words .store)
 end s = end-line s (runOf s .words) (run-leads s)
 
--- document 01's script, and all that it prints, none as `-` (request A2): `C 1`, `C 2`, `E 2 42>0 $`, `N`, `A 1`, `A 1`, `V 1 - 1 1`, `T 3 2`
+-- document 01's script, and all that it prints, none as `-` (request A2) and with the contexts that were made (request A3): `C 1 1`, `C 2 1`,
+-- `E 2 42>0 $`, `N`, `A 1 0`, `A 1 0`, `V 1 - 1 1`, `T 3 2`
 pub the-example : scriptReplies (
     12 ∷ 0 ∷ 1 ∷ 0 ∷ 0 ∷ 0 ∷ 0 ∷ 0 ∷ 42 ∷ 0 ∷ 0 ∷ 0 ∷ 0 ∷ 0 ∷ 0 ∷ 0
     ∷ 9 ∷ 0 ∷ 2 ∷ 0 ∷ 1 ∷ 0 ∷ 0 ∷ 0 ∷ 0 ∷ 0 ∷ 0 ∷ 0 ∷ 0
@@ -38,12 +39,12 @@ pub the-example : scriptReplies (
     ∷ 24 ∷ 0 ∷ 4 ∷ 0 ∷ 7 ∷ 0 ∷ 0 ∷ 0 ∷ 1 ∷ 0 ∷ 0 ∷ 0 ∷ 1 ∷ 0 ∷ 0 ∷ 0 ∷ 0 ∷ 0 ∷ 0 ∷ 0 ∷ 0 ∷ 0 ∷ 0 ∷ 0 ∷ 0 ∷ 0 ∷ 0 ∷ 0
     ∷ 24 ∷ 0 ∷ 4 ∷ 0 ∷ 7 ∷ 0 ∷ 0 ∷ 0 ∷ 2 ∷ 0 ∷ 0 ∷ 0 ∷ 1 ∷ 0 ∷ 0 ∷ 0 ∷ 0 ∷ 0 ∷ 0 ∷ 0 ∷ 0 ∷ 0 ∷ 0 ∷ 0 ∷ 0 ∷ 0 ∷ 0 ∷ 0
     ∷ 0 ∷ 0 ∷ 6 ∷ 0 ∷ []) ≡
-    67 ∷ 32 ∷ 49 ∷ 10
-    ∷ 67 ∷ 32 ∷ 50 ∷ 10
+    67 ∷ 32 ∷ 49 ∷ 32 ∷ 49 ∷ 10
+    ∷ 67 ∷ 32 ∷ 50 ∷ 32 ∷ 49 ∷ 10
     ∷ 69 ∷ 32 ∷ 50 ∷ 32 ∷ 52 ∷ 50 ∷ 62 ∷ 48 ∷ 32 ∷ 36 ∷ 10
     ∷ 78 ∷ 10
-    ∷ 65 ∷ 32 ∷ 49 ∷ 10
-    ∷ 65 ∷ 32 ∷ 49 ∷ 10
+    ∷ 65 ∷ 32 ∷ 49 ∷ 32 ∷ 48 ∷ 10
+    ∷ 65 ∷ 32 ∷ 49 ∷ 32 ∷ 48 ∷ 10
     ∷ 86 ∷ 32 ∷ 49 ∷ 32 ∷ 45 ∷ 32 ∷ 49 ∷ 32 ∷ 49 ∷ 10
     ∷ 84 ∷ 32 ∷ 51 ∷ 32 ∷ 50 ∷ 10 ∷ []
 unfolding script

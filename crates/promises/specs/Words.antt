@@ -24,7 +24,7 @@ use Rattle.store.specs.Calls.{Reply, zeros, kept, refusal, asked, wrongLength, 
 use Rattle.sets.specs.Layout.{setWordsLength}
 use Rattle.sets.specs.Words.{SoundSet}
 use Rattle.sets.specs.Config.{Config}
-use Rattle.sets.specs.Calls.{SetReply, refused, done, SetLeft, setLeft, lentLengths, lentChecks, closeCall}
+use Rattle.sets.specs.Calls.{SetReply, refused, done, SetLeft, setLeft, setLeftAfter, lentLengths, lentChecks, closeCall}
 use Rattle.sets.specs.Calls.{refusal as setRefusal}
 use Rattle.sets.specs.Refusals.{SoundLent, refusal-reply}
 
@@ -55,20 +55,24 @@ answers w z c r lw lz s h =
 -- ---- an accepted call on a set leaves what it leaves where no reason holds
 
 module _ (w v z : List ℕ) where
-  same-left : (g : SetLeft) (r : SetReply) (w′ v′ : List ℕ) → g .reply ≡ r → g .store ≡ w′ → g .set ≡ v′ → g .scratch ≡ zeros → g .merges ≡ 0 → g ≡ setLeft r w′ v′ zeros
-  same-left g r w′ v′ a b c d e = rw (← a, ← b, ← c, ← d, ← e)
+  same-left : (g : SetLeft) (r : SetReply) (w′ v′ : List ℕ) → g .reply ≡ r → g .store ≡ w′ → g .set ≡ v′ → g .scratch ≡ zeros → g .merges ≡ 0 → g .made ≡ 0
+      → g ≡ setLeft r w′ v′ zeros
+  same-left g r w′ v′ a b c d e f =
+      rw (← a, ← b, ← c, ← d)
+      (ap (λ (n : ℕ). setLeftAfter n (g .made) (g .reply) (g .store) (g .set) (g .scratch)) e
+      ∙ ap (λ (n : ℕ). setLeftAfter 0 n (g .reply) (g .store) (g .set) (g .scratch)) f)
 
-  accepted : (cs : List Check) (go : SetLeft) (r : SetReply) (w′ v′ : List ℕ) → ((n : ℕ) → r ≡ refused n → ⊥) → go .scratch ≡ zeros → go .merges ≡ 0
+  accepted : (cs : List Check) (go : SetLeft) (r : SetReply) (w′ v′ : List ℕ) → ((n : ℕ) → r ≡ refused n → ⊥) → go .scratch ≡ zeros → go .merges ≡ 0 → go .made ≡ 0
       → unless cs (setRefusal w v z) go .reply ≡ r → unless cs (setRefusal w v z) go .store ≡ w′ → unless cs (setRefusal w v z) go .set ≡ v′
       → unless cs (setRefusal w v z) go ≡ setLeft r w′ v′ zeros
-  accepted cs go r w′ v′ none k m a b c =
+  accepted cs go r w′ v′ none k m f a b c =
       let e = clear-of (setRefusal w v z) go (λ n x. x .reply ≡ refused n) (refusal-reply w v z) cs (λ n g. none n (sym a ∙ g)) .1 in
-      e ∙ same-left go r w′ v′ (ap (λ (x : SetLeft). x .reply) (sym e) ∙ a) (ap (λ (x : SetLeft). x .store) (sym e) ∙ b) (ap (λ (x : SetLeft). x .set) (sym e) ∙ c) k m
+      e ∙ same-left go r w′ v′ (ap (λ (x : SetLeft). x .reply) (sym e) ∙ a) (ap (λ (x : SetLeft). x .store) (sym e) ∙ b) (ap (λ (x : SetLeft). x .set) (sym e) ∙ c) k m f
 
   pub close-leaves : (w′ v′ : List ℕ) → (closeCall w v z .reply ≡ done) × (closeCall w v z .store ≡ w′) × (closeCall w v z .set ≡ v′)
       → closeCall w v z ≡ setLeft done w′ v′ zeros
   unfolding closeCall
-  close-leaves w′ v′ ok = accepted (lentChecks (lentLengths w v z) w v []) _ done w′ v′ (λ n e. never (cc)) refl refl (ok .0) (ok .1) (ok .2)
+  close-leaves w′ v′ ok = accepted (lentChecks (lentLengths w v z) w v []) _ done w′ v′ (λ n e. never (cc)) refl refl refl (ok .0) (ok .1) (ok .2)
 
 -- ---- a check in words
 

@@ -8,8 +8,8 @@ use lib.Dec.{eqb}
 use Rattle.verdicts.specs.Calls.{VerdictReply, VerdictLeft}
 use Rattle.sets.specs.Calls.{SetReply, SetLeft}
 use Rattle.store.specs.Calls.{Reply, Left}
-use Rattle.answers.specs.Answers.{answerOf, withMerges}
-use Rattle.answers.specs.SetAnswers.{setAnswerOf}
+use Rattle.answers.specs.Answers.{countedOf}
+use Rattle.answers.specs.SetAnswers.{setCountedOf}
 use Rattle.answers.specs.declared.structs.CountedAnswer.{CountedAnswer}
 
 -- the mode 0 is full-context, every other number by wildcard
@@ -20,16 +20,16 @@ byFullContext m = eqb m 0
 abbrev pub Opens : {A : Type 0} → (Reply → A) → Left → A → List ℕ → List ℕ → Type 0
 Opens of x a w z = (a ≡ of (x .reply)) × (w ≡ x .store) × (z ≡ x .scratch)
 
--- with the merges that it counts
+-- with the merges that it counts and the contexts that it makes
 abbrev pub OpensCounted : Left → CountedAnswer → List ℕ → List ℕ → Type 0
-OpensCounted x a w z = (a ≡ withMerges (answerOf (x .reply)) (x .merges)) × (w ≡ x .store) × (z ≡ x .scratch)
+OpensCounted x a w z = (a ≡ countedOf x) × (w ≡ x .store) × (z ≡ x .scratch)
 
 -- the same of a call on a set
 abbrev pub OpensSet : {A : Type 0} → (SetReply → A) → SetLeft → A → List ℕ → List ℕ → List ℕ → Type 0
 OpensSet of x a w v z = (a ≡ of (x .reply)) × (w ≡ x .store) × (v ≡ x .set) × (z ≡ x .scratch)
 
 abbrev pub OpensSetCounted : SetLeft → CountedAnswer → List ℕ → List ℕ → List ℕ → Type 0
-OpensSetCounted x a w v z = (a ≡ withMerges (setAnswerOf (x .reply)) (x .merges)) × (w ≡ x .store) × (v ≡ x .set) × (z ≡ x .scratch)
+OpensSetCounted x a w v z = (a ≡ setCountedOf x) × (w ≡ x .store) × (v ≡ x .set) × (z ≡ x .scratch)
 
 -- and of a call on a set's subsets, which may write the scratch and the output alone
 abbrev pub OpensVerdict : {A : Type 0} → (VerdictReply → A) → VerdictLeft → A → List ℕ → List ℕ → Type 0

@@ -1,5 +1,4 @@
 // The doors to the calls that write a store.
-use answers::Answer;
 use answers::CountedAnswer;
 use answers::fresh_number;
 use answers::merged_answer;
@@ -11,8 +10,8 @@ ghost use mathlib.Core.Path.{_≡_};
 ghost use Rattle.store.specs.Calls.{freshCall};
 ghost use Rattle.contexts.specs.MergeCall.{mergeCall};
 ghost use Rattle.interning.specs.SingletonCall.{singletonCall};
-ghost use Rattle.answers.specs.Answers.{answerOf, numberOf};
-ghost use Rattle.purse.specs.Doors.{Opens, OpensCounted, byFullContext};
+ghost use Rattle.answers.specs.Answers.{numberOf};
+ghost use Rattle.purse.specs.Doors.{OpensCounted, byFullContext};
 
 // Makes the lent words a fresh store.
 #[no_mangle]
@@ -22,21 +21,21 @@ pub extern "C" fn purse_fresh(store: &mut [u32]) -> u32
     fresh_number(store::fresh(store))
 }
 
-// The context of `state` over `parent`.
+// The context of `state` over `parent`, and 1 where it was made.
 #[no_mangle]
 pub extern "C" fn purse_singleton(
     store: &mut [u32],
     scratch: &mut [u32],
     parent: u32,
     state: u64,
-) -> Answer
-    ensures { λ r. ⌜ Opens answerOf (singletonCall (now (store .entry)) (now (scratch .entry)) parent state) r (now (store .exit)) (now (scratch .exit)) ⌝ }
+) -> CountedAnswer
+    ensures { λ r. ⌜ OpensCounted (singletonCall (now (store .entry)) (now (scratch .entry)) parent state) r (now (store .exit)) (now (scratch .exit)) ⌝ }
 {
     number_answer(interning::singleton(store, scratch, ContextId(parent), ReturnState(state)))
 }
 
 // The context of the merge of `left` and `right`: by mode 0 full-context, by any other number by wildcard;
-// and how many merges were counted.
+// and how many merges were counted, how many contexts made.
 #[no_mangle]
 pub extern "C" fn purse_merge(
     store: &mut [u32],

@@ -116,6 +116,7 @@ leaving g w v = record { got = g; store = w; set = v }
 abbrev pub named : Reader → Name → ℕ
 named R n = getD (R .names) n 0
 
+-- what a call counts is left out: a reader makes fewer contexts, and merges less, where another has made them before
 abbrev pub onStore : Reader → Left → Done
 onStore R x = leaving (told (x .reply)) (x .store) (R .set)
 

@@ -5,12 +5,14 @@ use mathlib.Core.List.{List, [], _∷_}
 use Prim.Native.Nat.{ℕ}
 use Rattle.cases.specs.Numbers.{never}
 use Rattle.stacks.specs.Merge.{isMark, wild, mergeE, mergeT}
-use Rattle.arena.specs.Store.{treeOf, tree, same, find, nodeAt}
+use lib.ListN.{length}
+use Rattle.arena.specs.Store.{Store, treeOf, tree, same, find, nodeAt}
 use Rattle.arena.specs.Kinds.{size}
 use Rattle.arena.specs.Room.{room, pool}
 use Rattle.arena.specs.Place.{listed, intern, placeE, place, mergeS}
 use Rattle.encoding.specs.Decide.{fits}
 use Rattle.store.specs.Checks.{unless}
+use Rattle.store.specs.Calls.{gives}
 use Rattle.interning.specs.SingletonCall.{singleS}
 use Rattle.work.specs.Counted.{tooMuch, counting, counted, deep, step, recall, begins, made, walk, before, andThen, interned, completed, keep}
 use Rattle.groups.specs.Lists.{which}
@@ -46,6 +48,14 @@ alone-room = (served _, (served _, tt))
 numbers-differ : (after (after first beginner (singleton 0 7) .store) beginner (singleton 0 8) .got ≡ context 2) × (after first beginner (singleton 0 8) .got ≡ context 1)
 unfolding stateAfter unless singleS place placeE intern listed find same tree treeOf fits pool room size
 numbers-differ = (refl, refl)
+
+-- And so do the figures: 7 over 0 is made once, and found by whoever asks next. They are no part of what a reader sees.
+abbrev madeOver : Store → ℕ
+madeOver s = gives s (singleS s 0 7) .made
+
+figures-differ : (madeOver first ≡ 1) × (madeOver (after first beginner (singleton 0 7) .store) ≡ 0)
+unfolding stateAfter unless singleS place placeE intern listed find same tree treeOf fits pool room size length
+figures-differ = (refl, refl)
 
 -- What it sees is the same.
 pub second-as-if-alone : (lent lent′ : ℕ → Lent) → ((n : ℕ) → Sized (lent n)) → ((n : ℕ) → Sized (lent′ n)) → only 1 (run lent calls) ≡ run lent′ (only 1 calls)

@@ -24,7 +24,7 @@ use Rattle.encoding.specs.Decide.Laws.{words-sound}
 use Rattle.store.specs.Checks.{Check, given, unless}
 use Rattle.store.specs.Checks.Laws.{Clear, unless-first, unless-next, clear-goes}
 use Rattle.store.specs.Calls as Stores
-use Rattle.store.specs.Calls.{Reply, Left, kept, wrongLength, unsoundStore, unknownContext, tooMuchWork, noRoom, made, madeAfter}
+use Rattle.store.specs.Calls.{Reply, Left, kept, wrongLength, unsoundStore, unknownContext, tooMuchWork, noRoom, gives, givesAfter}
 use Rattle.work.specs.Counted.{counting, countOf}
 use Rattle.interning.specs.SingletonCall.{singleS, singletonChecks, singletonCall}
 use Rattle.contexts.specs.MergeCall.{mergeChecks, mergeCall}
@@ -39,7 +39,7 @@ use Rattle.sets.specs.Sound as SoundSets
 use Rattle.sets.specs.Sound.{good-few, set-of-words}
 use Rattle.sets.specs.Refusals.{SoundLent, lent-clear}
 use Rattle.sets.specs.Calls as Sets
-use Rattle.sets.specs.Calls.{SetReply, SetLeft, setLeft, setLeftAfter, addWork, lentLengths, lentChecks, addChecks, freshSetCall, addCall, closeCall}
+use Rattle.sets.specs.Calls.{SetReply, SetLeft, setLeft, addsAfter, addWork, lentLengths, lentChecks, addChecks, freshSetCall, addCall, closeCall}
 use Rattle.groups.specs.Groups as Grouped
 use Rattle.groups.specs.Groups.{Group}
 use Rattle.groups.specs.Answers as Answers
@@ -181,7 +181,7 @@ module _ (s : Store) (g : GoodStore s) (S : Set) (good : goodSet (length s) S �
   unfolding singletonCall singletonChecks told
   singleton-is r c h =
       rw (store-of-words s g)
-      (past s S (Stores.refusal w z) (made (singleS s c r)) (onStore (reader [])) (to (context (singleS s c r .0)) (singleS s c r .1) S) store-refusals refl
+      (past s S (Stores.refusal w z) (gives s (singleS s c r)) (onStore (reader [])) (to (context (singleS s c r .0)) (singleS s c r .1) S) store-refusals refl
       (wrongLength w z ∷ unsoundStore w ∷ unknownContext w c ∷ []) (given 5 (leb stop r && not (eqb r emptyMark)) ∷ noRoom (singleS s c r .1) ∷ [])
       (store-clear .0, (store-clear .1 .0, (known-clear c h, tt))))
 
@@ -190,7 +190,7 @@ module _ (s : Store) (g : GoodStore s) (S : Set) (good : goodSet (length s) S �
   merge-is m a b h k =
       let n = words-count s (g .fits) in
       rw (store-of-words s g)
-      (past s S (Stores.refusal w z) (madeAfter (countOf (counting m s a b)) (mergeS m s a b)) (onStore (reader [])) (to (context (mergeS m s a b .0)) (mergeS m s a b .1) S) store-refusals refl
+      (past s S (Stores.refusal w z) (givesAfter (countOf (counting m s a b)) s (mergeS m s a b)) (onStore (reader [])) (to (context (mergeS m s a b .0)) (mergeS m s a b .1) S) store-refusals refl
       (wrongLength w z ∷ unsoundStore w ∷ given 4 (not (ltb a (contexts w) && ltb b (contexts w))) ∷ []) (tooMuchWork (counting m s a b) ∷ noRoom (mergeS m s a b .1) ∷ [])
       (store-clear .0, (store-clear .1 .0, (ap not (both-true _ _ (lt-ltb a (contexts w) (rw n h)) (lt-ltb b (contexts w) (rw n k))), tt))))
 
@@ -220,7 +220,7 @@ module _ (s : Store) (g : GoodStore s) (S : Set) (good : goodSet (length s) S �
       (given 7 (T .closed) ∷ given 4 (not (ltb (x .context) n))
       ∷ given 8 (not (any (sameKey x) (T .configs)) && leb mostConfigs (length (T .configs)))
       ∷ tooMuchWork (addWork u T x) ∷ noRoom (A .store) ∷ []))
-      (Sets.refusal w v z) (setLeftAfter (countOf (addWork u T x)) (Sets.added (A .answer)) (wordsOf (A .store)) (setWords (A .set)) Stores.zeros)
+      (Sets.refusal w v z) (addsAfter (countOf (addWork u T x)) u A)
 
   add-read : (x : Config) → addCall w v z x ≡ addWith x (length s) s S
   unfolding addCall addChecks
@@ -233,7 +233,7 @@ module _ (s : Store) (g : GoodStore s) (S : Set) (good : goodSet (length s) S �
   add-is x =
       let A = addTo s S x in
       ap onSet (add-read x)
-      ∙ past s S (Sets.refusal w v z) (setLeftAfter (countOf (addWork s S x)) (Sets.added (A .answer)) (wordsOf (A .store)) (setWords (A .set)) Stores.zeros) onSet
+      ∙ past s S (Sets.refusal w v z) (addsAfter (countOf (addWork s S x)) s A) onSet
       (to (plain (ofSet (Sets.added (A .answer)))) (A .store) (A .set)) set-refusals refl
       (lentChecks (lentLengths w v z) w v []) (addChecksOf s S x A) lent-passed
 

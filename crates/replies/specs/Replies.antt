@@ -43,29 +43,29 @@ wiped z = elim (eqb (length z) scratchWords) [ true ↦ zeros | false ↦ z ]
 
 -- ---- calls on contexts
 
--- the line of a reply; `done` prints the bytes given
-unfoldable pub lineOf : List ℕ → Reply → List ℕ
-lineOf e (refused n) = refusalLine n
-lineOf e done = e
-lineOf e (context c) = contextLine c
-lineOf e (count n) = []
-lineOf e (state r) = []
-lineOf e (holds b) = []
-lineOf e none = []
+-- the line of a reply, where `made` contexts were made; `done` prints the bytes given
+unfoldable pub lineOf : List ℕ → ℕ → Reply → List ℕ
+lineOf e made (refused n) = refusalLine n
+lineOf e made done = e
+lineOf e made (context c) = contextLine c made
+lineOf e made (count n) = []
+lineOf e made (state r) = []
+lineOf e made (holds b) = []
+lineOf e made none = []
 
 abbrev pub onStore : Lent → List ℕ → Left → Printed
-onStore l e x = record { reply = lineOf e (x .reply); words = lent (x .store) (l .set) (l .stops) (x .scratch) }
+onStore l e x = record { reply = lineOf e (x .made) (x .reply); words = lent (x .store) (l .set) (l .stops) (x .scratch) }
 
 -- ---- calls on the set
 
--- the line of a reply; `done` prints the bytes given
-unfoldable pub setLineOf : List ℕ → SetReply → List ℕ
-setLineOf e (setRefused n) = refusalLine n
-setLineOf e setDone = e
-setLineOf e (added n) = addedLine n
+-- the line of a reply, where `made` contexts were made; `done` prints the bytes given
+unfoldable pub setLineOf : List ℕ → ℕ → SetReply → List ℕ
+setLineOf e made (setRefused n) = refusalLine n
+setLineOf e made setDone = e
+setLineOf e made (added n) = addedLine n made
 
 abbrev pub onSet : Lent → List ℕ → SetLeft → Printed
-onSet l e x = record { reply = setLineOf e (x .reply); words = lent (x .store) (x .set) (l .stops) (x .scratch) }
+onSet l e x = record { reply = setLineOf e (x .made) (x .reply); words = lent (x .store) (x .set) (l .stops) (x .scratch) }
 
 -- a new set works in no scratch: it is 0 after, and "untouched on 2"
 abbrev pub afterNew : List ℕ → SetReply → List ℕ

@@ -6,19 +6,20 @@ use Prim.Native.Nat.{ℕ}
 use Rattle.words.specs.Refusals.{number}
 use Rattle.words.specs.declared.refusals.Refusal.{Refusal}
 use Rattle.sets.specs.Calls.{SetLeft, setLeft, freshSetCall}
-use Rattle.configs.specs.Replies.{settled, addedReply, addedLeft}
+use Rattle.contexts.specs.declared.merges.Work.{Work}
+use Rattle.configs.specs.Replies.{settled, addedReply, workOf, addedLeft}
 use Rattle.configs.specs.declared.settle.Settled.{Settled}
 use Rattle.configs.specs.declared.settle.Settled.the-variants.{Done, Refused as NotSettled}
 use Rattle.configs.specs.declared.adding.Added.{Added}
 use Rattle.configs.specs.declared.adding.Added.the-variants.{Inserted, Merged, Refused as NotAdded}
 use Rattle.lines.specs.Laid.{Wrote}
-use Rattle.lines.specs.Lines.{numberLine, refusalLine, addedLine, newSetLine}
+use Rattle.lines.specs.Lines.{numberLine, numbersLine, refusalLine, addedLine, newSetLine}
 use Rattle.replies.specs.Replies.{Lent, lent, wiped, setLineOf, onSet, newSetCall}
 use Rattle.replies.specs.Replies.Laws.{Answered}
 
 -- a call on the set, which leaves x; `done` prints e
 pub record SetReplied (b e : List ℕ) (x : SetLeft) (r : ℕ) (u w v z : List ℕ) : Type 0 where
-  pub wrote : Wrote b 0 (setLineOf e (x .reply)) r u
+  pub wrote : Wrote b 0 (setLineOf e (x .made) (x .reply)) r u
   pub store : w ≡ x .store
   pub set : v ≡ x .set
   pub scratch : z ≡ x .scratch
@@ -48,20 +49,24 @@ module _ (b : List ℕ) (r : ℕ) (u v v′ z : List ℕ) (full : Bool) (a : Set
 
 -- ---- a config more
 
+-- the line of the answer
+abbrev pub addedLineOf : Added → List ℕ
+addedLineOf a = setLineOf [] (workOf a .made) (addedReply a)
+
 pub added-call : (b : List ℕ) (x : SetLeft) (a : Added) (r : ℕ) (u w v z : List ℕ) → addedLeft a w v z ≡ x
-    → Wrote b 0 (setLineOf [] (addedReply a)) r u → SetReplied b [] x r u w v z
+    → Wrote b 0 (addedLineOf a) r u → SetReplied b [] x r u w v z
 added-call b x a r u w v z e p = rw (← e) (record { wrote = p; store = refl; set = refl; scratch = refl })
 
 module _ (b : List ℕ) (j : ℕ) (u : List ℕ) (a : Added) where
-  pub inserted-line : a ≡ Inserted → Wrote b 0 (numberLine 65 1) j u → Wrote b 0 (setLineOf [] (addedReply a)) j u
+  pub inserted-line : a ≡ Inserted → Wrote b 0 (numbersLine 65 1 0) j u → Wrote b 0 (addedLineOf a) j u
   unfolding setLineOf addedLine
   inserted-line e v = rw e v
 
-  pub merged-line : (n : ℕ) → a ≡ Merged n → Wrote b 0 (numberLine 65 0) j u → Wrote b 0 (setLineOf [] (addedReply a)) j u
+  pub merged-line : (k : Work) → a ≡ Merged k → Wrote b 0 (numbersLine 65 0 (k .made)) j u → Wrote b 0 (addedLineOf a) j u
   unfolding setLineOf addedLine
-  merged-line n e v = rw e v
+  merged-line k e v = rw e v
 
-  pub not-added-line : (f : Refusal) (n : ℕ) → a ≡ NotAdded f → n ≡ number f → Wrote b 0 (numberLine 82 n) j u → Wrote b 0 (setLineOf [] (addedReply a)) j u
+  pub not-added-line : (f : Refusal) (n : ℕ) → a ≡ NotAdded f → n ≡ number f → Wrote b 0 (numberLine 82 n) j u → Wrote b 0 (addedLineOf a) j u
   unfolding setLineOf refusalLine
   not-added-line f n e q v = rw e (rw q at v)
 

@@ -2,7 +2,7 @@
 use mathlib.Core.Path.{_≡_}
 use mathlib.Core.Bool.{Bool, true, false, not, _&&_}
 use mathlib.Core.List.{List, [], _∷_}
-use Prim.Native.Nat.{ℕ}
+use Prim.Native.Nat.{ℕ, _-_}
 use lib.Dec.{eqb, ltb, leb}
 use lib.ListN.{length}
 use Rattle.layout.specs.Layout.{storeWords, scratchWords, count as contexts}
@@ -15,7 +15,7 @@ use Rattle.store.specs.Calls.{zeros, tooMuchWork, noRoom}
 use Rattle.sets.specs.Config.{Config}
 use Rattle.sets.specs.Lists.{any}
 use Rattle.sets.specs.Layout.{mostConfigs, setWordsLength}
-use Rattle.sets.specs.Sets.{Set, sameKey, held, emptySet, closedSet, addTo}
+use Rattle.sets.specs.Sets.{Set, sameKey, held, emptySet, closedSet, Addition, addTo}
 use Rattle.sets.specs.Words.{setWords, setOf, soundSet}
 use Rattle.store.specs.Checks.{Check, given, unless}
 
@@ -25,20 +25,21 @@ pub data SetReply : Type 0 where
   done : SetReply
   added : ℕ → SetReply
 
--- the reply, how many merges were counted, and every word afterwards
+-- the reply, how many merges were counted, how many contexts were made, and every word afterwards
 pub record SetLeft : Type 0 where
   pub reply : SetReply
   pub merges : ℕ
+  pub made : ℕ
   pub store : List ℕ
   pub set : List ℕ
   pub scratch : List ℕ
 
--- after n merges
-abbrev pub setLeftAfter : ℕ → SetReply → List ℕ → List ℕ → List ℕ → SetLeft
-setLeftAfter n r w v z = record { reply = r; merges = n; store = w; set = v; scratch = z }
+-- after n merges, with k contexts made
+abbrev pub setLeftAfter : ℕ → ℕ → SetReply → List ℕ → List ℕ → List ℕ → SetLeft
+setLeftAfter n k r w v z = record { reply = r; merges = n; made = k; store = w; set = v; scratch = z }
 
 abbrev pub setLeft : SetReply → List ℕ → List ℕ → List ℕ → SetLeft
-setLeft r w v z = setLeftAfter 0 r w v z
+setLeft r w v z = setLeftAfter 0 0 r w v z
 
 -- "Store, set and outputs stay as on entry; scratch is 0 (untouched on 2)"
 unfoldable pub refusal : List ℕ → List ℕ → List ℕ → ℕ → SetLeft
@@ -74,11 +75,13 @@ addChecks w v z x =
 unfoldable pub freshSetCall : List ℕ → Bool → SetReply × List ℕ
 freshSetCall v f = unless (given 2 (not (eqb (length v) setWordsLength)) ∷ []) (λ n. (refused n, v)) (done, setWords (emptySet f))
 
+-- the addition A, after n merges; made: "exactly the count after less the count before", which is that of s
+abbrev pub addsAfter : ℕ → Store → Addition → SetLeft
+addsAfter n s A = setLeftAfter n (length (A .store) - length s) (added (A .answer)) (wordsOf (A .store)) (setWords (A .set)) zeros
+
 unfoldable pub addCall : List ℕ → List ℕ → List ℕ → Config → SetLeft
 addCall w v z x =
-    let A = addTo (storeOf w) (setOf v) x in
-    unless (addChecks w v z x) (refusal w v z)
-    (setLeftAfter (countOf (addWork (storeOf w) (setOf v) x)) (added (A .answer)) (wordsOf (A .store)) (setWords (A .set)) zeros)
+    unless (addChecks w v z x) (refusal w v z) (addsAfter (countOf (addWork (storeOf w) (setOf v) x)) (storeOf w) (addTo (storeOf w) (setOf v) x))
 
 -- "Closing a set sets flag 8"
 unfoldable pub closeCall : List ℕ → List ℕ → List ℕ → SetLeft

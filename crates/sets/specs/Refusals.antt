@@ -42,6 +42,10 @@ module _ (w v z : List ℕ) where
   unfolding refusal
   refusal-keeps n = two n 2 (λ e. rw (eq-eqb n 2 e, refusal) (refl, refl)) (λ d. rw (ne-eqb n 2 d, refusal) (refl, refl))
 
+  pub refusal-made : (n : ℕ) → refusal w v z n .made ≡ 0
+  unfolding refusal
+  refusal-made n = two n 2 (λ e. rw (eq-eqb n 2 e, refusal)) (λ d. rw (ne-eqb n 2 d, refusal))
+
   -- "scratch is 0 (untouched on 2)"
   pub refusal-scratch : (n : ℕ) → (n ≡ 2 → refusal w v z n .scratch ≡ z) × ((n ≡ 2 → ⊥) → refusal w v z n .scratch ≡ zeros)
   unfolding refusal

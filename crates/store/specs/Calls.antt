@@ -3,7 +3,7 @@ pub mod Laws
 use mathlib.Core.Path.{_≡_}
 use mathlib.Core.Bool.{Bool, true, false, not, _&&_}
 use mathlib.Core.List.{List, [], _∷_}
-use Prim.Native.Nat.{ℕ}
+use Prim.Native.Nat.{ℕ, _-_}
 use lib.Dec.{eqb, ltb}
 use lib.ListN.{length}
 use Rattle.arena.specs.Store.{Store, dollar}
@@ -23,19 +23,20 @@ pub data Reply : Type 0 where
   holds : Bool → Reply
   none : Reply
 
--- the reply, how many merges were counted, and every word afterwards
+-- the reply, how many merges were counted, how many contexts were made, and every word afterwards
 pub record Left : Type 0 where
   pub reply : Reply
   pub merges : ℕ
+  pub made : ℕ
   pub store : List ℕ
   pub scratch : List ℕ
 
--- after n merges
-abbrev pub leavesAfter : ℕ → Reply → List ℕ → List ℕ → Left
-leavesAfter n r w z = record { reply = r; merges = n; store = w; scratch = z }
+-- after n merges, with k contexts made
+abbrev pub leavesAfter : ℕ → ℕ → Reply → List ℕ → List ℕ → Left
+leavesAfter n k r w z = record { reply = r; merges = n; made = k; store = w; scratch = z }
 
 abbrev pub leaves : Reply → List ℕ → List ℕ → Left
-leaves r w z = leavesAfter 0 r w z
+leaves r w z = leavesAfter 0 0 r w z
 
 -- the scratch as a call that was not refused 2 leaves it
 unfoldable pub zeros : List ℕ
@@ -73,12 +74,12 @@ tooMuchWork o = given 12 (tooMuch o)
 
 -- ---- what a call leaves that is not refused
 
--- a number, after n merges, and the words of the store that has it
-abbrev pub madeAfter : ℕ → ℕ × Store → Left
-madeAfter n x = leavesAfter n (context (x .0)) (wordsOf (x .1)) zeros
+-- a number, after n merges, and the words of the store that has it; made: "exactly the count after less the count before", which is that of s
+abbrev pub givesAfter : ℕ → Store → ℕ × Store → Left
+givesAfter n s x = leavesAfter n (length (x .1) - length s) (context (x .0)) (wordsOf (x .1)) zeros
 
-abbrev pub made : ℕ × Store → Left
-made x = madeAfter 0 x
+abbrev pub gives : Store → ℕ × Store → Left
+gives s x = givesAfter 0 s x
 
 -- a call that only reads, on the context c: w is the store's words, z the scratch's, r the reply
 abbrev pub askChecks : List ℕ → List ℕ → ℕ → List Check

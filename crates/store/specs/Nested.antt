@@ -8,9 +8,10 @@ use lib.ListN.{length}
 use Rattle.cases.specs.Bools.{bool?}
 use Rattle.arena.specs.Store.{Store}
 use Rattle.layout.specs.Layout.{storeWords, scratchWords, count as contexts}
+use Rattle.layout.specs.Decode.{storeOf}
 use Rattle.encoding.specs.Decide.{sound, fits}
 use Rattle.store.specs.Checks.{Check, given, unless}
-use Rattle.store.specs.Calls.{Reply, refused, Left, leaves, kept, refusal, wrongLength, unsoundStore, unknownContext, noRoom, made, asked}
+use Rattle.store.specs.Calls.{Reply, refused, Left, leaves, kept, refusal, wrongLength, unsoundStore, unknownContext, noRoom, gives, asked}
 
 unfoldable pub ifLengths : List ℕ → List ℕ → Left → Left
 ifLengths w z go = elim (eqb (length w) storeWords && eqb (length z) scratchWords) [ true ↦ go | false ↦ leaves (refused 2) w z ]
@@ -22,7 +23,7 @@ unfoldable pub ifKnown : List ℕ → ℕ → Left → Left
 ifKnown w c go = elim (ltb c (contexts w)) [ true ↦ go | false ↦ kept (refused 4) w ]
 
 unfoldable pub grown : List ℕ → ℕ × Store → Left
-grown w x = elim (fits (x .1)) [ true ↦ made x | false ↦ kept (refused 6) w ]
+grown w x = elim (fits (x .1)) [ true ↦ gives (storeOf w) x | false ↦ kept (refused 6) w ]
 
 -- lengths and soundness
 unfoldable pub checked : List ℕ → List ℕ → Left → Left
@@ -59,7 +60,7 @@ pub checked-nested : (w z : List ℕ) (cs : List Check) (go : Left)
 unfolding checked
 checked-nested w z cs go = lengths-nested w z (unsoundStore w ∷ cs) go ∙ ap (ifLengths w z) (sound-nested w z cs go)
 
-pub room-nested : (w z : List ℕ) (x : ℕ × Store) → unless (noRoom (x .1) ∷ []) (refusal w z) (made x) ≡ grown w x
+pub room-nested : (w z : List ℕ) (x : ℕ × Store) → unless (noRoom (x .1) ∷ []) (refusal w z) (gives (storeOf w) x) ≡ grown w x
 unfolding unless refusal grown
 room-nested w z x = bool? (fits (x .1)) (λ e. rw (e, unless, grown)) (λ e. rw (e, unless, grown))
 

@@ -70,7 +70,7 @@ impl Makes for Machine {
             }
         };
         match self.call(&record) {
-            Ok(Reply::Context(number)) => Some(number),
+            Ok(Reply::Context { number, .. }) => Some(number),
             _ => None,
         }
     }
@@ -349,7 +349,8 @@ fn time(case: &Case) {
     let port = best_of_three(port, counted);
     let plain = || {
         let merged = plain::merge(&mut store, &mut scratch, left, right, case.wildcard);
-        merged.expect("the model answers it")
+        let merged = merged.expect("the model answers it");
+        (merged.context, merged.merges)
     };
     let plain = best_of_three(plain, counted);
     let Counted { merges, walked, .. } = counted;

@@ -66,7 +66,7 @@ impl Builder {
 /// The number that a record of the store answers.
 fn context(machine: &mut Machine, record: &Record) -> u32 {
     match machine.call(record) {
-        Ok(Reply::Context(number)) => number,
+        Ok(Reply::Context { number, .. }) => number,
         other => panic!("{record:?} answers {other:?}"),
     }
 }

@@ -142,7 +142,8 @@ impl Lent {
 
     fn plain(&mut self, config: &Config) -> bool {
         let config = black_box(config.words());
-        plain::add(&mut self.store, &mut self.set, &mut self.scratch, config).expect("a case has room").0
+        let added = plain::add(&mut self.store, &mut self.set, &mut self.scratch, config);
+        added.expect("a case has room").inserted
     }
 
     fn close(&mut self) {

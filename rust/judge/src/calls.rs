@@ -52,20 +52,26 @@ pub enum Call {
 pub enum Reply {
     Refused(u32),
     Done,
-    Context(u32),
-    /// The context of a merge, and how many merges were counted.
+    /// The context of a singleton, and how many contexts the call made.
+    Interned {
+        context: u32,
+        made: u32,
+    },
+    /// The context of a merge, how many merges were counted, and how many contexts the call made.
     Merged {
         context: u32,
         merges: u32,
+        made: u32,
     },
     Count(u32),
     Truth(bool),
     /// A return state or a parent; `None` where there is none.
     Entry(Option<u64>),
-    /// A config went last; or it was merged, and so many merges were counted.
+    /// A config went last; or it was merged, and so many merges were counted and contexts made.
     Added {
         inserted: bool,
         merges: u32,
+        made: u32,
     },
     /// An alternative; `None` where there is none.
     Alternative(Option<u32>),
@@ -156,7 +162,8 @@ fn answer(store: &Store, call: &Call) -> Result<Answer, u32> {
             known(store, right)?;
             let mut grown = store.clone();
             let (context, merges) = grown.merge_in_call(left, right, wildcard)?;
-            Ok(Answer::Made(Reply::Merged { context, merges }, grown))
+            let made = grown.made_since(store);
+            Ok(Answer::Made(Reply::Merged { context, merges, made }, grown))
         }
         Call::Len { context } => {
             known(store, context)?;
@@ -189,7 +196,7 @@ fn known(store: &Store, context: u32) -> Result<(), u32> {
 fn singleton(store: &Store, parent: u32, state: u64) -> Result<Answer, u32> {
     known(store, parent)?;
     if state == EMPTY_MARK {
-        return Ok(Answer::Read(Reply::Context(0)));
+        return Ok(Answer::Read(Reply::Interned { context: 0, made: 0 }));
     }
     if state >= u64::from(DOLLAR) {
         return Err(STATE_OUT_OF_RANGE);
@@ -201,8 +208,9 @@ fn singleton(store: &Store, parent: u32, state: u64) -> Result<Answer, u32> {
 /// Runs a call in a copy that has no ceilings, and refuses it where that ends above one.
 fn made(store: &Store, call: impl FnOnce(&mut Store) -> u32) -> Result<Answer, u32> {
     let mut grown = store.clone();
-    let number = grown.within_ceilings(call).ok_or(FULL_STORE)?;
-    Ok(Answer::Made(Reply::Context(number), grown))
+    let context = grown.within_ceilings(call).ok_or(FULL_STORE)?;
+    let made = grown.made_since(store);
+    Ok(Answer::Made(Reply::Interned { context, made }, grown))
 }
 
 /// "`return_state` of a `$`, context 0's at 0 included, is the empty mark."

@@ -122,12 +122,14 @@ fn add(store: &Store, mut set: ConfigSet, config: Config) -> Result<Answer, u32>
             return Err(FULL_SET);
         }
         set.configs.push(config);
-        return Ok(Answer { reply: Reply::Added { inserted: true, merges: 0 }, store: None, set });
+        let reply = Reply::Added { inserted: true, merges: 0, made: 0 };
+        return Ok(Answer { reply, store: None, set });
     };
     // "The contexts are merged (wildcard unless flag 1)."
     let held = set.configs[place];
     let mut grown = store.clone();
     let (context, merges) = grown.merge_in_call(held.context, config.context, !set.full_context)?;
     set.configs[place] = held.joined(&config, context);
-    Ok(Answer { reply: Reply::Added { inserted: false, merges }, store: Some(grown), set })
+    let reply = Reply::Added { inserted: false, merges, made: grown.made_since(store) };
+    Ok(Answer { reply, store: Some(grown), set })
 }

@@ -57,6 +57,11 @@ impl Store {
         self.contexts.len()
     }
 
+    /// "Exactly the count after less the count before" (request A3).
+    pub fn made_since(&self, before: &Store) -> u32 {
+        narrow(self.count() - before.count())
+    }
+
     pub fn knows(&self, context: u32) -> bool {
         wide(context) < self.count()
     }

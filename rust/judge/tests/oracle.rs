@@ -52,10 +52,12 @@ fn compare(machine: &mut Machine, lent: &Lent, record: &Record, what: &str) -> V
     }
     let (reply, words) = judged(lent, call_of(record).expect("a record of the store"));
     match theirs {
-        Ok(reply::Reply::Context(context)) => {
+        Ok(reply::Reply::Context { number: context, made }) => {
             let merges = machine.merges_of_last_call();
-            let merged = matches!(record, Record::Merge { .. });
-            let theirs = if merged { Reply::Merged { context, merges } } else { Reply::Context(context) };
+            let theirs = match record {
+                Record::Merge { .. } => Reply::Merged { context, merges, made },
+                _ => Reply::Interned { context, made },
+            };
             assert_eq!(reply, theirs, "{what}");
         }
         Err(number) => assert_eq!(reply, Reply::Refused(number), "{what}"),

@@ -47,12 +47,12 @@ fn judged(words: &mut Words, record: &Record) -> Option<Reply> {
 
 fn theirs(machine: &mut Machine, record: &Record) -> Reply {
     match machine.call(record) {
-        Ok(reply::Reply::Context(context)) if matches!(record, Record::Merge { .. }) => {
-            Reply::Merged { context, merges: machine.merges_of_last_call() }
+        Ok(reply::Reply::Context { number: context, made }) if matches!(record, Record::Merge { .. }) => {
+            Reply::Merged { context, merges: machine.merges_of_last_call(), made }
         }
-        Ok(reply::Reply::Context(number)) => Reply::Context(number),
-        Ok(reply::Reply::Added { inserted }) => {
-            Reply::Added { inserted, merges: machine.merges_of_last_call() }
+        Ok(reply::Reply::Context { number: context, made }) => Reply::Interned { context, made },
+        Ok(reply::Reply::Added { inserted, made }) => {
+            Reply::Added { inserted, merges: machine.merges_of_last_call(), made }
         }
         Ok(reply::Reply::NewSet | reply::Reply::Closed) => Reply::Done,
         Ok(other) => panic!("{record:?} answers {other:?}"),

@@ -17,10 +17,15 @@ pub const TOO_MUCH_WORK: Refusal = Refusal(12);
 
 #[derive(Clone, Debug, Eq, PartialEq)]
 pub enum Reply {
-    Context(u32),
+    /// A context, and how many contexts the call made.
+    Context {
+        number: u32,
+        made: u32,
+    },
     NewSet,
     Added {
         inserted: bool,
+        made: u32,
     },
     Stops(usize),
     Verdict(Verdict),
@@ -56,9 +61,9 @@ impl fmt::Display for Refusal {
 impl fmt::Display for Reply {
     fn fmt(&self, out: &mut fmt::Formatter<'_>) -> fmt::Result {
         match self {
-            Reply::Context(number) => write!(out, "C {number}"),
+            Reply::Context { number, made } => write!(out, "C {number} {made}"),
             Reply::NewSet => write!(out, "N"),
-            Reply::Added { inserted } => write!(out, "A {}", u8::from(*inserted)),
+            Reply::Added { inserted, made } => write!(out, "A {} {made}", u8::from(*inserted)),
             Reply::Stops(held) => write!(out, "S {held}"),
             Reply::Verdict(verdict) => write!(out, "{verdict}"),
             Reply::Entries(entries) => show_entries(entries, out),

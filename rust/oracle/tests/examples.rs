@@ -46,11 +46,11 @@ fn the_worked_example_has_the_documents_bytes() {
     let bytes = text::assemble(&hex).expect("good hexadecimal");
     assert_eq!(script("worked-example.txt"), bytes);
     let lines = run(&bytes, Kinds::All).lines;
-    assert_eq!(lines, b"C 1\nC 2\nE 2 42>0 $\nN\nA 1\nA 1\nV 1 - 1 1\nT 3 2\n");
+    assert_eq!(lines, b"C 1 1\nC 2 1\nE 2 42>0 $\nN\nA 1 0\nA 1 0\nV 1 - 1 1\nT 3 2\n");
 }
 
 #[test]
 fn without_sets_the_worked_example_stops_at_its_first_unknown_kind() {
     let lines = run(&script("worked-example.txt"), Kinds::Store).lines;
-    assert_eq!(lines, b"C 1\nC 2\nE 2 42>0 $\nR 9\nT 3 2\n");
+    assert_eq!(lines, b"C 1 1\nC 2 1\nE 2 42>0 $\nR 9\nT 3 2\n");
 }

@@ -14,8 +14,10 @@ fn context(machine: &mut Machine, lines: &str) -> u32 {
     let script = text::assemble(lines).expect("good text");
     let (records, _) = split(&script, Kinds::All);
     let replies = records.iter().map(|record| machine.call(record));
-    let last = replies.last().expect("a record").expect("an accepted one").to_string();
-    last[2..].parse().expect("a context's number")
+    match replies.last().expect("a record").expect("an accepted one") {
+        Reply::Context { number, .. } => number,
+        other => panic!("{other} is no context"),
+    }
 }
 
 /// The lines end in two different contexts that have one hash.
@@ -166,8 +168,8 @@ fn words_are_counted() {
 fn each_fault_is_one() {
     let faults = malformed::each_fault();
     let lines: Vec<Vec<u8>> = faults.iter().map(|script| run(script, Kinds::All).lines).collect();
-    assert_eq!(lines.iter().filter(|&lines| lines == b"C 1\nR 9\nT 2 0\n").count(), faults.len() - 3);
+    assert_eq!(lines.iter().filter(|&lines| lines == b"C 1 1\nR 9\nT 2 0\n").count(), faults.len() - 3);
     for reply in ["S 0", "S 64", "R 10"] {
-        assert!(lines.contains(&format!("C 1\n{reply}\nW stop\nT 2 0\n").into_bytes()), "{reply}");
+        assert!(lines.contains(&format!("C 1 1\n{reply}\nW stop\nT 2 0\n").into_bytes()), "{reply}");
     }
 }

@@ -61,9 +61,9 @@ fn an_earlier_row_of_the_table_comes_first() {
 
 #[test]
 fn a_full_store_still_finds_what_is_old() {
-    assert_eq!(last_reply(&full_store(), "singleton 0 511"), "C 511");
-    assert_eq!(last_reply(&full_store(), "singleton 0 18446744073709551615"), "C 0");
-    assert_eq!(last_reply(&full_store(), "merge 3 0 wildcard"), "C 0");
+    assert_eq!(last_reply(&full_store(), "singleton 0 511"), "C 511 0");
+    assert_eq!(last_reply(&full_store(), "singleton 0 18446744073709551615"), "C 0 0");
+    assert_eq!(last_reply(&full_store(), "merge 3 0 wildcard"), "C 0 0");
     assert_eq!(last_reply(&full_store(), "merge 3 4 full"), "R 6");
     assert_eq!(last_reply(&full_store(), "show 512"), "R 4");
 }
@@ -75,7 +75,7 @@ fn settled_points_of_sets_and_stops() {
     assert_eq!(last_reply("stops 7\nset wildcard\nadd 7 1 0 0 0 0\n", "verdict"), "V 1 1 1 1");
     let refused = format!("stops 7\nstops{}\nadd 7 1 0 0 0 0\n", " 8".repeat(65));
     assert_eq!(last_reply(&refused, "verdict"), "V 1 1 1 1");
-    assert_eq!(last_reply("close\nset full\n", "add 7 1 0 0 0 0"), "A 1");
+    assert_eq!(last_reply("close\nset full\n", "add 7 1 0 0 0 0"), "A 1 0");
     assert_eq!(
         last_reply("set wildcard\nsingleton 0 5\nadd 7 1 0 0 0 0\nadd 7 1 1 0 0 2147483648\n", "show 1"),
         "E 1 5>0"
@@ -99,10 +99,10 @@ fn malformed_input_ends_the_script() {
         "hex 01 00 03 00 02",                         // mode 2 of a set
         "hex 09 00 02 00 00 00 00 00 00 00 00 00 FF", // mode 255 of a merge
     ] {
-        assert_eq!(lines(&format!("singleton 0 7\n{bad}\nsingleton 0 8")), "C 1\nR 9\nT 2 0\n", "{bad}");
+        assert_eq!(lines(&format!("singleton 0 7\n{bad}\nsingleton 0 8")), "C 1 1\nR 9\nT 2 0\n", "{bad}");
     }
     for cut_short in ["hex 00", "hex 00 00 06", "hex 04 00 07 00", "hex 04 00 07 00 00 00 00"] {
-        assert_eq!(lines(&format!("singleton 0 7\n{cut_short}")), "C 1\nR 9\nT 2 0\n", "{cut_short}");
+        assert_eq!(lines(&format!("singleton 0 7\n{cut_short}")), "C 1 1\nR 9\nT 2 0\n", "{cut_short}");
     }
 }
 

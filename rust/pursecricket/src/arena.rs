@@ -4,7 +4,7 @@ use std::cell::{RefCell, RefMut};
 use std::fmt;
 
 use crate::raw::{self, SCRATCH_WORDS, STORE_WORDS};
-use crate::{ContextId, Merged, Refusal, ReturnState};
+use crate::{ContextId, Interned, Merged, Refusal, ReturnState};
 
 /// A store of contexts, with the scratch that its calls need.
 ///
@@ -24,8 +24,9 @@ impl ContextArena {
         ContextArena { store, scratch: RefCell::new(vec![0; SCRATCH_WORDS].into_boxed_slice()) }
     }
 
-    /// The context of a return state on top of each stack of the parent; that of the empty mark is 0.
-    pub fn singleton(&mut self, parent: ContextId, return_state: ReturnState) -> Result<ContextId, Refusal> {
+    /// The context of a return state on top of each stack of the parent, found or made; that of the empty mark
+    /// is 0.
+    pub fn singleton(&mut self, parent: ContextId, return_state: ReturnState) -> Result<Interned, Refusal> {
         raw::singleton(&mut self.store, self.scratch.get_mut(), parent, return_state)
     }
 

@@ -23,18 +23,18 @@ const HAS_SEMANTIC: u32 = 2;
 /// use pursecricket::{Alternative, AtnConfig, AtnConfigSet, ContextArena, EMPTY_CONTEXT, Refusal, ReturnState};
 ///
 /// let mut arena = ContextArena::new();
-/// let seven = arena.singleton(EMPTY_CONTEXT, ReturnState(7))?;
-/// let nine = arena.singleton(EMPTY_CONTEXT, ReturnState(9))?;
+/// let seven = arena.singleton(EMPTY_CONTEXT, ReturnState(7))?.context;
+/// let nine = arena.singleton(EMPTY_CONTEXT, ReturnState(9))?.context;
 ///
 /// // A new key goes last.
 /// let mut set = AtnConfigSet::new_full_context(true);
 /// assert!(set.add(AtnConfig::new(3, Alternative(1), seven), &mut arena)?.inserted);
 ///
-/// // A known key is merged: the union of the contexts, the larger reach.
+/// // A known key is merged: the union of the contexts, which is made here, the larger reach.
 /// let mut again = AtnConfig::new(3, Alternative(1), nine);
 /// again.reaches_into_outer_context = 5;
 /// let added = set.add(again, &mut arena)?;
-/// assert_eq!((added.inserted, added.merges), (false, 1));
+/// assert_eq!((added.inserted, added.merges, added.made), (false, 1, 1));
 /// let merged = set.configs().next().expect("one config");
 /// assert_eq!(merged.context, arena.merge(seven, nine, false)?.context);
 /// assert_eq!((set.len(), merged.reaches_into_outer_context), (1, 5));

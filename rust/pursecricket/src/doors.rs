@@ -10,13 +10,15 @@ pub struct Answer {
     pub value: u32,
 }
 
-/// A refusal number; where that is 0, the value, and how many merges the call counted.
+/// A refusal number; where that is 0, the value, how many merges the call counted and how many contexts it
+/// made.
 #[derive(Clone, Copy, Debug, Eq, PartialEq)]
 #[repr(C)]
 pub struct CountedAnswer {
     pub refusal: u32,
     pub value: u32,
     pub merges: u32,
+    pub made: u32,
 }
 
 /// A refusal number; where that is 0, whether there is an entry, and its value.
@@ -82,7 +84,7 @@ unsafe extern "C" {
         scratch_len: usize,
         parent: u32,
         state: u64,
-    ) -> Answer;
+    ) -> CountedAnswer;
 
     pub fn purse_merge(
         store: *mut u32,

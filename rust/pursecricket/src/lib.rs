@@ -6,11 +6,11 @@
 //! a [`Refusal`].
 //!
 //! ```
-//! use pursecricket::{ContextArena, EMPTY_CONTEXT, Refusal, ReturnState};
+//! use pursecricket::{ContextArena, EMPTY_CONTEXT, Interned, Merged, Refusal, ReturnState};
 //!
 //! let mut arena = ContextArena::new();
-//! let seven = arena.singleton(EMPTY_CONTEXT, ReturnState(7))?;
-//! let nine = arena.singleton(EMPTY_CONTEXT, ReturnState(9))?;
+//! let seven = arena.singleton(EMPTY_CONTEXT, ReturnState(7))?.context;
+//! let nine = arena.singleton(EMPTY_CONTEXT, ReturnState(9))?.context;
 //!
 //! // The union of both sets of stacks, whichever side comes first.
 //! let both = arena.merge(seven, nine, false)?.context;
@@ -20,9 +20,15 @@
 //! assert_eq!(arena.parent(both, 1)?, Some(EMPTY_CONTEXT));
 //!
 //! // What is merged beneath a state counts too; a call that would count more than 65,536 is refused.
-//! let (left, right) = (arena.singleton(seven, ReturnState(5))?, arena.singleton(nine, ReturnState(5))?);
-//! assert_eq!(arena.merge(left, right, false)?.merges, 2);
-//! assert_eq!(arena.merge(left, left, false)?.merges, 0);
+//! let [left, right] = [arena.singleton(seven, ReturnState(5))?, arena.singleton(nine, ReturnState(5))?];
+//! let merged = arena.merge(left.context, right.context, false)?;
+//! assert_eq!(merged.merges, 2);
+//! assert_eq!(arena.merge(left.context, left.context, false)?.merges, 0);
+//!
+//! // Each call says how many contexts it made: the union beneath was there. What is there is found.
+//! assert_eq!((left.made, right.made, merged.made), (1, 1, 1));
+//! assert_eq!(arena.singleton(seven, ReturnState(5))?, Interned { made: 0, ..left });
+//! assert_eq!(arena.merge(right.context, left.context, false)?, Merged { made: 0, ..merged });
 //!
 //! // A state that no store can hold is refused, and nothing changes.
 //! let before = arena.words().to_vec();
@@ -47,7 +53,7 @@ mod refusal;
 pub use arena::ContextArena;
 pub use config::AtnConfig;
 pub use config_set::AtnConfigSet;
-pub use counted::{Added, Merged};
+pub use counted::{Added, Interned, Merged};
 pub use figures::Figures;
 pub use names::{Alternative, ContextId, EMPTY_CONTEXT, EMPTY_RETURN_STATE, ReturnState, SemanticContextId};
 pub use raw::unique_alt_of as unique_alt;

@@ -14,7 +14,9 @@ use crate::doors::{
     purse_merge, purse_parent, purse_return_state, purse_single_viable_alt, purse_singleton,
     purse_unique_alt, purse_unique_alt_of, purse_why,
 };
-use crate::{Added, Alternative, AtnConfig, ContextId, Figures, Merged, Reason, Refusal, ReturnState};
+use crate::{
+    Added, Alternative, AtnConfig, ContextId, Figures, Interned, Merged, Reason, Refusal, ReturnState,
+};
 
 /// Words of a store.
 pub const STORE_WORDS: usize = 5_634;
@@ -36,13 +38,14 @@ pub fn fresh(store: &mut [u32]) -> Result<(), Refusal> {
     done(refusal)
 }
 
-/// The context of a return state on top of each stack of the parent; that of the empty mark is 0.
+/// The context of a return state on top of each stack of the parent, found or made; that of the empty mark
+/// is 0.
 pub fn singleton(
     store: &mut [u32],
     scratch: &mut [u32],
     parent: ContextId,
     state: ReturnState,
-) -> Result<ContextId, Refusal> {
+) -> Result<Interned, Refusal> {
     // SAFETY: each pointer and its length are those of one exclusive slice, which outlives the call.
     let answer = unsafe {
         purse_singleton(
@@ -54,7 +57,8 @@ pub fn singleton(
             state.0,
         )
     };
-    value(answer).map(ContextId)
+    let CountedAnswer { value, made, .. } = counted(answer)?;
+    Ok(Interned { context: ContextId(value), made })
 }
 
 /// The context of the merged sets: their union; or, where `root_is_wildcard`, the merge in which context 0
@@ -79,8 +83,8 @@ pub fn merge(
             u32::from(root_is_wildcard),
         )
     };
-    let (context, merges) = counted(answer)?;
-    Ok(Merged { context: ContextId(context), merges })
+    let CountedAnswer { value, merges, made, .. } = counted(answer)?;
+    Ok(Merged { context: ContextId(value), merges, made })
 }
 
 /// Entries of a context; context 0 has one.
@@ -152,8 +156,8 @@ pub fn add(
             provenance,
         )
     };
-    let (inserted, merges) = counted(answer)?;
-    Ok(Added { inserted: truth(inserted), merges })
+    let CountedAnswer { value, merges, made, .. } = counted(answer)?;
+    Ok(Added { inserted: truth(value), merges, made })
 }
 
 /// Makes a set read-only; one that is read-only stays so.
@@ -398,9 +402,9 @@ fn value(answer: Answer) -> Result<u32, Refusal> {
     Refusal::from_number(answer.refusal).map_or(Ok(answer.value), Err)
 }
 
-/// The value and the count.
-fn counted(answer: CountedAnswer) -> Result<(u32, u32), Refusal> {
-    Refusal::from_number(answer.refusal).map_or(Ok((answer.value, answer.merges)), Err)
+/// An answer that is no refusal.
+fn counted(answer: CountedAnswer) -> Result<CountedAnswer, Refusal> {
+    Refusal::from_number(answer.refusal).map_or(Ok(answer), Err)
 }
 
 fn entry(answer: EntryAnswer) -> Result<Option<u64>, Refusal> {
@@ -445,16 +449,16 @@ mod tests {
             }
             // SAFETY: as above.
             let answer = unsafe { purse_singleton(words, length, cleared, SCRATCH_WORDS, 1, 7) };
-            assert_eq!(answer, Answer { refusal, value: 0 });
+            assert_eq!(answer, CountedAnswer { refusal, value: 0, merges: 0, made: 0 });
             let mut set = vec![0; SET_WORDS];
             let at = set.as_mut_ptr();
             // SAFETY: as above.
             let answer =
                 unsafe { purse_add(words, length, at, SET_WORDS, cleared, SCRATCH_WORDS, 1, 1, 1, 1, 1, 1) };
-            assert_eq!(answer, CountedAnswer { refusal, value: 0, merges: 0 });
+            assert_eq!(answer, CountedAnswer { refusal, value: 0, merges: 0, made: 0 });
             // SAFETY: as above.
             let answer = unsafe { purse_merge(words, length, cleared, SCRATCH_WORDS, 0, 1, 0) };
-            assert_eq!(answer, CountedAnswer { refusal, value: 0, merges: 0 });
+            assert_eq!(answer, CountedAnswer { refusal, value: 0, merges: 0, made: 0 });
         }
     }
 

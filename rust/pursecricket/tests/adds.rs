@@ -90,14 +90,16 @@ fn keys_that_are_nearly_alike() {
             let other = Config::of(words);
             let outcome = add(&lent, &set_of(vec![base], true), other, &mut random);
             let inserted = (offset, bit) != (5, 31);
-            assert_eq!(outcome.reply, Reply::Added { inserted, merges: 0 }, "bit {bit} of word {offset}");
+            let expected = Reply::Added { inserted, merges: 0, made: 0 };
+            assert_eq!(outcome.reply, expected, "bit {bit} of word {offset}");
         }
     }
     // Words that are no part of the key: context and reach.
     let base = config(7, 1, 1);
     for (other, merges) in [(config(7, 1, 0), 1), (Config { reach: 1 << 31, ..base }, 0)] {
         let outcome = add(&lent, &set_of(vec![base], true), other, &mut random);
-        assert_eq!(outcome.reply, Reply::Added { inserted: false, merges });
+        let made = outcome.store[0] - lent.words()[0];
+        assert_eq!(outcome.reply, Reply::Added { inserted: false, merges, made });
     }
 }
 
@@ -114,8 +116,8 @@ fn keys_of_one_hash() {
             for k in [0, 1, 127, 254, 255, 256] {
                 let reply = add(&lent, &set, key(k), &mut random).reply;
                 let expected = match k {
-                    _ if k < count => Reply::Added { inserted: false, merges: 0 },
-                    _ if count < 256 => Reply::Added { inserted: true, merges: 0 },
+                    _ if k < count => Reply::Added { inserted: false, merges: 0, made: 0 },
+                    _ if count < 256 => Reply::Added { inserted: true, merges: 0, made: 0 },
                     _ => Reply::Refused(8),
                 };
                 assert_eq!(reply, expected, "key {k} of {count}");
@@ -173,7 +175,7 @@ fn refusals_in_their_order() {
             Some(at) => Reply::Refused([2, 1, 3, 7, 4][at]),
             None if known => Reply::Refused(6),
             None if full => Reply::Refused(8),
-            None => Reply::Added { inserted: true, merges: 0 },
+            None => Reply::Added { inserted: true, merges: 0, made: 0 },
         };
         assert_eq!(outcome.reply, expected, "faults {faults}");
     }
@@ -206,9 +208,12 @@ fn near_the_most_contexts() {
             let outcome = add(&lent, &set, given, &mut random);
             // 13 contexts: one for the bottoms, and one a level.
             assert_eq!(outcome.reply == Reply::Refused(6), room < 13, "room {room}");
+            let made = matches!(outcome.reply, Reply::Added { made: 13, .. });
+            assert_eq!(made, room >= 13, "room {room}");
             // What merges to a context that is there has room always.
             let again = Config { reach: 3, provenance: MARK, ..config(7, 1, left) };
-            assert_eq!(add(&lent, &set, again, &mut random).reply, Reply::Added { inserted: false, merges: 0 });
+            let found = Reply::Added { inserted: false, merges: 0, made: 0 };
+            assert_eq!(add(&lent, &set, again, &mut random).reply, found);
         }
     }
 }

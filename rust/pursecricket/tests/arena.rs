@@ -1,8 +1,18 @@
 //! The safe face, by document 01's examples.
 
 use pursecricket::{
-    ContextArena, ContextId, EMPTY_CONTEXT, EMPTY_RETURN_STATE, Merged, Refusal, ReturnState, raw,
+    ContextArena, ContextId, EMPTY_CONTEXT, EMPTY_RETURN_STATE, Interned, Merged, Refusal, ReturnState, raw,
 };
+
+/// A context that was not there.
+fn made(number: u32) -> Result<Interned, Refusal> {
+    Ok(Interned { context: ContextId(number), made: 1 })
+}
+
+/// One that was.
+fn found(number: u32) -> Result<Interned, Refusal> {
+    Ok(Interned { context: ContextId(number), made: 0 })
+}
 
 #[test]
 fn a_fresh_arena() {
@@ -22,10 +32,10 @@ fn a_fresh_arena() {
 #[test]
 fn singletons() {
     let mut arena = ContextArena::new();
-    assert_eq!(arena.singleton(EMPTY_CONTEXT, ReturnState(7)), Ok(ContextId(1)));
-    assert_eq!(arena.singleton(EMPTY_CONTEXT, ReturnState(7)), Ok(ContextId(1)));
-    assert_eq!(arena.singleton(EMPTY_CONTEXT, EMPTY_RETURN_STATE), Ok(EMPTY_CONTEXT));
-    assert_eq!(arena.singleton(EMPTY_CONTEXT, ReturnState(4_294_967_294)), Ok(ContextId(2)));
+    assert_eq!(arena.singleton(EMPTY_CONTEXT, ReturnState(7)), made(1));
+    assert_eq!(arena.singleton(EMPTY_CONTEXT, ReturnState(7)), found(1));
+    assert_eq!(arena.singleton(EMPTY_CONTEXT, EMPTY_RETURN_STATE), found(0));
+    assert_eq!(arena.singleton(EMPTY_CONTEXT, ReturnState(4_294_967_294)), made(2));
     let refused = arena.singleton(EMPTY_CONTEXT, ReturnState(4_294_967_295));
     assert_eq!(refused, Err(Refusal::StateOutOfRange));
     assert_eq!(arena.singleton(ContextId(3), EMPTY_RETURN_STATE), Err(Refusal::UnknownContext));
@@ -38,12 +48,12 @@ fn singletons() {
 fn a_full_arena() {
     let mut arena = ContextArena::new();
     for number in 1..512 {
-        assert_eq!(arena.singleton(EMPTY_CONTEXT, ReturnState(number.into())), Ok(ContextId(number)));
+        assert_eq!(arena.singleton(EMPTY_CONTEXT, ReturnState(number.into())), made(number));
     }
     let words = arena.words().to_vec();
     assert_eq!(arena.singleton(EMPTY_CONTEXT, ReturnState(512)), Err(Refusal::FullStore));
     assert_eq!(arena.words(), words);
-    assert_eq!(arena.singleton(EMPTY_CONTEXT, ReturnState(511)), Ok(ContextId(511)));
+    assert_eq!(arena.singleton(EMPTY_CONTEXT, ReturnState(511)), found(511));
 }
 
 /// A copy goes its own way.
@@ -51,9 +61,9 @@ fn a_full_arena() {
 fn clones() {
     let mut arena = ContextArena::new();
     let mut other = arena.clone();
-    assert_eq!(other.singleton(EMPTY_CONTEXT, ReturnState(7)), Ok(ContextId(1)));
+    assert_eq!(other.singleton(EMPTY_CONTEXT, ReturnState(7)), made(1));
     assert_eq!(arena.len(ContextId(1)), Err(Refusal::UnknownContext));
-    assert_eq!(arena.singleton(EMPTY_CONTEXT, ReturnState(8)), Ok(ContextId(1)));
+    assert_eq!(arena.singleton(EMPTY_CONTEXT, ReturnState(8)), made(1));
     assert_eq!(other.return_state(ContextId(1), 0), Ok(Some(ReturnState(7))));
 }
 
@@ -83,7 +93,7 @@ mod merges {
 
     /// An arena, and states each placed on the one before.
     fn chain(arena: &mut ContextArena, states: &[u64]) -> ContextId {
-        let over = |below, &state| arena.singleton(below, ReturnState(state)).expect("room");
+        let over = |below, &state| arena.singleton(below, ReturnState(state)).expect("room").context;
         states.iter().fold(EMPTY_CONTEXT, over)
     }
 
@@ -104,7 +114,8 @@ mod merges {
         let both = [(42, Some(EMPTY_CONTEXT)), (u64::MAX, Some(EMPTY_CONTEXT))];
         assert_eq!(entries(&arena, merged), both);
         assert_eq!(arena.has_empty_path(merged), Ok(true));
-        assert_eq!(arena.merge(single, EMPTY_CONTEXT, true), Ok(Merged { context: EMPTY_CONTEXT, merges: 1 }));
+        let swallowed = Merged { context: EMPTY_CONTEXT, merges: 1, made: 0 };
+        assert_eq!(arena.merge(single, EMPTY_CONTEXT, true), Ok(swallowed));
     }
 
     /// P7.
@@ -124,7 +135,7 @@ mod merges {
     fn the_empty_stack_beneath_a_top_state() {
         let mut arena = ContextArena::new();
         let (deep, shallow) = (chain(&mut arena, &[42, 7]), chain(&mut arena, &[7]));
-        assert_eq!(arena.merge(deep, shallow, true), Ok(Merged { context: shallow, merges: 2 }));
+        assert_eq!(arena.merge(deep, shallow, true), Ok(Merged { context: shallow, merges: 2, made: 0 }));
         let merged = arena.merge(deep, shallow, false).expect("room").context;
         assert_eq!(arena.len(merged), Ok(1));
         let beneath = arena.parent(merged, 0).expect("known").expect("a parent");

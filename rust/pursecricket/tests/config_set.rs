@@ -3,19 +3,24 @@
 use std::collections::BTreeSet;
 
 use pursecricket::{
-    Added, Alternative, AtnConfig, AtnConfigSet, ContextArena, ContextId, EMPTY_CONTEXT, Figures, Refusal,
-    ReturnState, SemanticContextId, raw, unique_alt,
+    Added, Alternative, AtnConfig, AtnConfigSet, ContextArena, ContextId, EMPTY_CONTEXT, Figures, Interned,
+    Refusal, ReturnState, SemanticContextId, raw, unique_alt,
 };
 
 const MARK: u32 = 1 << 31;
-const INSERTED: Result<Added, Refusal> = Ok(Added { inserted: true, merges: 0 });
-const MERGED: Result<Added, Refusal> = Ok(Added { inserted: false, merges: 1 });
+const INSERTED: Result<Added, Refusal> = Ok(Added { inserted: true, merges: 0, made: 0 });
+
+/// One merge, and so many contexts made by it.
+fn merged(made: u32) -> Result<Added, Refusal> {
+    Ok(Added { inserted: false, merges: 1, made })
+}
 
 /// Contexts 1 to `count`: that many states over context 0.
 fn arena_of(count: u32) -> ContextArena {
     let mut arena = ContextArena::new();
     for state in 1..=count {
-        assert_eq!(arena.singleton(EMPTY_CONTEXT, ReturnState(state.into())), Ok(ContextId(state)));
+        let made = Interned { context: ContextId(state), made: 1 };
+        assert_eq!(arena.singleton(EMPTY_CONTEXT, ReturnState(state.into())), Ok(made));
     }
     arena
 }
@@ -80,13 +85,14 @@ fn known_keys() {
         let mut second = config(7, 1, 2);
         second.reaches_into_outer_context = 9;
         second.suppress_precedence_filter();
-        assert_eq!(set.add(second, &mut arena), MERGED);
+        assert_eq!(set.add(second, &mut arena), merged(1));
         let both = arena.merge(ContextId(1), ContextId(2), !full).expect("room").context;
         assert_eq!(only(&set), AtnConfig { context: both, ..second });
         // Neither a smaller reach nor a config without the mark takes anything back.
         let mut third = config(7, 1, 0);
         third.reaches_into_outer_context = 3;
-        assert_eq!(set.add(third, &mut arena), MERGED);
+        // Context 0 swallows the others by wildcard.
+        assert_eq!(set.add(third, &mut arena), merged(u32::from(full)));
         let all = arena.merge(both, EMPTY_CONTEXT, !full).expect("room").context;
         assert_eq!(only(&set), AtnConfig { context: all, ..second });
         assert_eq!(all == EMPTY_CONTEXT, !full);
@@ -123,7 +129,7 @@ fn full_sets() {
     assert_eq!(set.add(config(256, 1, 0), &mut arena), Err(Refusal::FullSet));
     assert_eq!(set.add(config(256, 1, 9), &mut arena), Err(Refusal::UnknownContext));
     assert_eq!(set, before);
-    assert_eq!(set.add(config(255, 1, 1), &mut arena), MERGED);
+    assert_eq!(set.add(config(255, 1, 1), &mut arena), merged(1));
     assert_eq!(set.configs().next_back(), Some(config(255, 1, 2)));
     assert_eq!(arena.len(ContextId(2)), Ok(2));
 }
@@ -141,7 +147,7 @@ fn a_full_store() {
     assert_eq!(set.add(second, &mut arena), Err(Refusal::FullStore));
     assert_eq!((&set, arena.words()), (&before, &store[..]));
     let again = AtnConfig { context: ContextId(1), ..second };
-    assert_eq!(set.add(again, &mut arena), Ok(Added { inserted: false, merges: 0 }));
+    assert_eq!(set.add(again, &mut arena), Ok(Added { inserted: false, merges: 0, made: 0 }));
     assert_eq!(only(&set), AtnConfig { context: ContextId(1), ..second });
 }
 

@@ -62,7 +62,7 @@ fn the_full_store_itself() {
     let old = find_a_singleton(&whole).expect("a full store has singletons");
     let lent = Lent::new(whole.words());
     let found = agree(&lent, &old, &dirty_scratch(&mut random), &"an old singleton");
-    assert!(matches!(found.reply, Reply::Context(_)));
+    assert!(matches!(found.reply, Reply::Interned { made: 0, .. }));
     for round in 0..200 {
         for call in every_kind(&mut random, 512) {
             agree(&lent, &call, &dirty_scratch(&mut random), &format_args!("round {round}"));

@@ -179,7 +179,7 @@ fn the_widest_arrays() {
     let mut store = Store::fresh();
     let (left, right) = (store.intern(array(1, 2, 512)), store.intern(array(2, 2, 512)));
     for outcome in merge_all_ways(&store, left, right, &mut random) {
-        assert_eq!(outcome.reply, Reply::Merged { context: 3, merges: 1 });
+        assert_eq!(outcome.reply, Reply::Merged { context: 3, merges: 1, made: 1 });
         assert_eq!(outcome.store[..2], [4, 2_048]);
     }
 }
@@ -197,8 +197,10 @@ fn near_the_most_contexts() {
         let [full, wildcard] = merge_all_ways(&maker.store, left, right, &mut random);
         // 13 contexts: one for the bottoms, and one a level.
         let refused = room < 13;
-        assert_eq!(full.reply == Reply::Refused(6), refused, "room {room}");
-        assert_eq!(wildcard.reply == Reply::Refused(6), refused, "room {room}");
+        for reply in [full.reply, wildcard.reply] {
+            assert_eq!(reply == Reply::Refused(6), refused, "room {room}");
+            assert_eq!(matches!(reply, Reply::Merged { made: 13, .. }), !refused, "room {room}");
+        }
     }
 }
 
@@ -235,7 +237,7 @@ fn in_full_stores() {
             let outcomes = merge_all_ways(&store, left, right, &mut random);
             refused += outcomes.iter().filter(|outcome| outcome.reply == Reply::Refused(6)).count();
             for outcome in merge_all_ways(&store, left, left, &mut random) {
-                assert_eq!(outcome.reply, Reply::Merged { context: left, merges: 0 });
+                assert_eq!(outcome.reply, Reply::Merged { context: left, merges: 0, made: 0 });
             }
         }
     }

@@ -28,36 +28,36 @@ impl Port {
     fn call(&mut self, record: &Record) -> Result<Reply, Refusal> {
         let Port { arena, set, stops, merges } = self;
         *merges = 0;
-        let context = match *record {
-            Record::Singleton { parent, state } => arena.singleton(ContextId(parent), ReturnState(state)),
-            Record::Merge { left, right, mode } => {
-                let merged = arena.merge(ContextId(left), ContextId(right), mode == Mode::Wildcard);
-                merged.map(|merged| {
-                    *merges = merged.merges;
-                    merged.context
-                })
+        match *record {
+            Record::Singleton { parent, state } => {
+                let interned = arena.singleton(ContextId(parent), ReturnState(state))?;
+                Ok(Reply::Context { number: interned.context.0, made: interned.made })
             }
-            Record::Show { context } => return shown(arena, ContextId(context)).map(Reply::Entries),
+            Record::Merge { left, right, mode } => {
+                let merged = arena.merge(ContextId(left), ContextId(right), mode == Mode::Wildcard)?;
+                *merges = merged.merges;
+                Ok(Reply::Context { number: merged.context.0, made: merged.made })
+            }
+            Record::Show { context } => shown(arena, ContextId(context)).map(Reply::Entries),
             Record::NewSet { mode } => {
                 *set = AtnConfigSet::new_full_context(mode == Mode::Full);
-                return Ok(Reply::NewSet);
+                Ok(Reply::NewSet)
             }
             Record::Add(config) => {
                 let added = set.add(given(config), arena)?;
                 *merges = added.merges;
-                return Ok(Reply::Added { inserted: added.inserted });
+                Ok(Reply::Added { inserted: added.inserted, made: added.made })
             }
-            Record::Close => return set.close(arena).map(|()| Reply::Closed),
+            Record::Close => set.close(arena).map(|()| Reply::Closed),
             // A list that no verdict takes is not held.
             Record::Stops(ref states) => {
                 set.has_sll_conflict_terminating_prediction(arena, states)?;
                 stops.clone_from(states);
-                return Ok(Reply::Stops(stops.len()));
+                Ok(Reply::Stops(stops.len()))
             }
-            Record::Verdict => return self.verdict().map(Reply::Verdict),
-            Record::Why => return set.why(arena, stops).map(|why| Reply::Reason(said(why))),
-        };
-        context.map(|context| Reply::Context(context.0))
+            Record::Verdict => self.verdict().map(Reply::Verdict),
+            Record::Why => set.why(arena, stops).map(|why| Reply::Reason(said(why))),
+        }
     }
 
     fn verdict(&self) -> Result<Verdict, Refusal> {
@@ -115,6 +115,14 @@ fn shown(arena: &ContextArena, context: ContextId) -> Result<Vec<Option<(u32, u3
     (0..arena.len(context)?).map(entry).collect()
 }
 
+/// How many contexts a reply says that its call made.
+fn made(reply: &Result<Reply, u32>) -> u32 {
+    match *reply {
+        Ok(Reply::Context { made, .. } | Reply::Added { made, .. }) => made,
+        _ => 0,
+    }
+}
+
 /// How many configs were added, and verdicts given.
 #[derive(Default)]
 struct Tally {
@@ -122,16 +130,19 @@ struct Tally {
     verdicts: usize,
 }
 
-/// Runs a script on both sides: every reply, the set's words after every record, the store's at the end.
-fn compare(made: &Made, kinds: Kinds, index: u64, tally: &mut Tally) {
-    let (records, _) = split(&made.script, kinds);
+/// Runs a script on both sides: every reply, the set's words after every record, the store's at the end. The
+/// contexts made by its calls are all that the store has then but context 0.
+fn compare(script: &Made, kinds: Kinds, index: u64, tally: &mut Tally) {
+    let (records, _) = split(&script.script, kinds);
     let (mut machine, mut port) = (Machine::new(), Port::new());
+    let mut contexts = 1;
     for (at, record) in records.iter().enumerate() {
-        let what = || format!("script {index}, '{}', record {at}: {record:?}", made.family);
+        let what = || format!("script {index}, '{}', record {at}: {record:?}", script.family);
         let theirs = machine.call(record).map_err(|refusal| u32::from(refusal.0));
         let ours = port.call(record).map_err(Refusal::number);
         assert_eq!(ours, theirs, "{}", what());
         assert_eq!(port.merges, machine.merges_of_last_call(), "{}", what());
+        contexts += made(&ours);
         if matches!(record, Record::NewSet { .. } | Record::Add(_) | Record::Close) {
             assert!(port.set.words() == machine.set_words(), "{}: the set", what());
         }
@@ -142,8 +153,9 @@ fn compare(made: &Made, kinds: Kinds, index: u64, tally: &mut Tally) {
         tally.added += usize::from(matches!(ours, Ok(Reply::Added { .. })));
         tally.verdicts += usize::from(matches!(ours, Ok(Reply::Verdict(_))));
     }
-    assert!(port.set.words() == machine.set_words(), "script {index}, '{}': the set", made.family);
-    assert!(port.arena.words() == machine.store_words(), "script {index}, '{}': the store", made.family);
+    assert_eq!(port.arena.words()[0], contexts, "script {index}, '{}': contexts made", script.family);
+    assert!(port.set.words() == machine.set_words(), "script {index}, '{}': the set", script.family);
+    assert!(port.arena.words() == machine.store_words(), "script {index}, '{}': the store", script.family);
 }
 
 #[test]

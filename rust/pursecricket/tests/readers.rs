@@ -72,7 +72,7 @@ impl Reader {
         Some(match call {
             Call::Singleton(parent, state) => {
                 let answer = arena.singleton(self.named(*parent)?, ReturnState(*state));
-                self.context(arena, answer)
+                self.context(arena, answer.map(|interned| interned.context))
             }
             Call::Merge(left, right, wildcard) => {
                 let answer = arena.merge(self.named(*left)?, self.named(*right)?, *wildcard);
@@ -192,7 +192,8 @@ fn as_if_alone() {
         let count = random.between(2, 5);
         let mut shared = ContextArena::new();
         let mut readers: Vec<Reader> = (0..count).map(|_| Reader::new()).collect();
-        let mut alone: Vec<(ContextArena, Reader)> = (0..count).map(|_| (ContextArena::new(), Reader::new())).collect();
+        let mut alone: Vec<(ContextArena, Reader)> =
+            (0..count).map(|_| (ContextArena::new(), Reader::new())).collect();
         for step in 0..random.between(10, 60) {
             let (who, call) = (random.below(count), any_call(&mut random));
             let seen = readers[who].call(&mut shared, &call);

@@ -14,6 +14,11 @@ fn singleton(store: &Store, parent: u32, state: u64, random: &mut Random) -> Rep
     agree(&lent, &Call::Singleton { parent, state }, &dirty_scratch(random), &"singleton").reply
 }
 
+/// A context that was found.
+fn found(context: u32) -> Reply {
+    Reply::Interned { context, made: 0 }
+}
+
 #[test]
 fn on_random_stores() {
     let mut random = Random::new(20);
@@ -45,14 +50,14 @@ fn from_fresh_to_full() {
 fn the_last_context() {
     let mut random = Random::new(22);
     let almost = singletons_over_0(510);
-    assert_eq!(singleton(&almost, 0, 511, &mut random), Reply::Context(511));
+    assert_eq!(singleton(&almost, 0, 511, &mut random), Reply::Interned { context: 511, made: 1 });
     let full = singletons_over_0(511);
     assert_eq!(singleton(&full, 0, 512, &mut random), Reply::Refused(6));
     assert_eq!(singleton(&full, 511, 1, &mut random), Reply::Refused(6));
     for state in [1, 2, 255, 256, 510, 511] {
-        assert_eq!(singleton(&full, 0, state, &mut random), Reply::Context(state as u32));
+        assert_eq!(singleton(&full, 0, state, &mut random), found(state as u32));
     }
-    assert_eq!(singleton(&full, 511, u64::MAX, &mut random), Reply::Context(0));
+    assert_eq!(singleton(&full, 511, u64::MAX, &mut random), found(0));
 }
 
 #[test]
@@ -65,7 +70,7 @@ fn in_full_stores() {
             let state = if entry.state == DOLLAR { u64::MAX } else { u64::from(entry.state) };
             let reply = singleton(&store, entry.parent, state, &mut random);
             let one_entry = store.entries(context).len() == 1;
-            assert!(!one_entry || reply == Reply::Context(context), "seed {seed}, context {context}");
+            assert!(!one_entry || reply == found(context), "seed {seed}, context {context}");
         }
     }
 }
@@ -80,10 +85,11 @@ fn states_at_the_borders() {
         for state in BORDER_STATES {
             let reply = singleton(store, count - 1, state, &mut random);
             match state {
-                u64::MAX => assert_eq!(reply, Reply::Context(0)),
+                u64::MAX => assert_eq!(reply, found(0)),
                 4_294_967_295.. => assert_eq!(reply, Reply::Refused(5)),
                 _ if count == 512 => assert_eq!(reply, Reply::Refused(6)),
-                _ => assert!(matches!(reply, Reply::Context(_))),
+                // Nothing stands over the newest context.
+                _ => assert_eq!(reply, Reply::Interned { context: count, made: 1 }),
             }
             for unknown in [count, count + 1, u32::MAX] {
                 assert_eq!(singleton(store, unknown, state, &mut random), Reply::Refused(4));
@@ -141,12 +147,15 @@ fn colliding_hashes() {
         assert_eq!(hash(&maker.store, left), hash(&maker.store, right), "{left} and {right}");
         // What stands over them then differs in a parent alone, and collides too.
         for state in [3, 4] {
-            let made = singleton(&maker.store, left, state, &mut random);
-            maker.singleton(left, state as u32);
-            let other = singleton(&maker.store, right, state, &mut random);
-            maker.singleton(right, state as u32);
-            assert_ne!(made, other);
-            assert_eq!(singleton(&maker.store, left, state, &mut random), made);
+            let [one, other] = [left, right].map(|parent| {
+                let context = narrow(maker.store.count());
+                let made = singleton(&maker.store, parent, state, &mut random);
+                assert_eq!(made, Reply::Interned { context, made: 1 });
+                maker.singleton(parent, state as u32);
+                context
+            });
+            assert_ne!(one, other);
+            assert_eq!(singleton(&maker.store, left, state, &mut random), found(one));
         }
     }
     for state in [1, 7, 515_144_035, 999_192_160] {
@@ -169,8 +178,10 @@ fn colliding_singletons_from_fresh() {
             for state in chains[(first + step) % chains.len()] {
                 let call = Call::Singleton { parent, state };
                 let left = agree(&Lent::new(words), &call, &dirty_scratch(&mut random), &"collision");
-                let Reply::Context(number) = left.reply else { panic!("{:?}", left.reply) };
-                (parent, words) = (number, left.store);
+                let Reply::Interned { context, made } = left.reply else { panic!("{:?}", left.reply) };
+                // The second time round all is there.
+                assert_eq!(made, u32::from(step < chains.len()));
+                (parent, words) = (context, left.store);
             }
             tops.push(parent);
         }

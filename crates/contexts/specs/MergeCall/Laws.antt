@@ -3,7 +3,7 @@ use mathlib.Core.Path.{_≡_, refl, sym, ap, _∙_}
 use mathlib.Core.Logic.{⊎-elim}
 use mathlib.Core.Bool.{Bool, true, false}
 use mathlib.Core.List.{List, [], _∷_}
-use Prim.Native.Nat.{ℕ, _<_, _≤_}
+use Prim.Native.Nat.{ℕ, _-_, _<_, _≤_}
 use native.Mathlib.Omega.{arith}
 use lib.ListN.{length, getD, replicate}
 use Rattle.cases.specs.Bools.{bool?}
@@ -29,8 +29,9 @@ use Rattle.store.specs.Admit.{Admits, cleared, known-goes, unknown}
 use Rattle.store.specs.declared.inner.admit.Admitted.{Admitted}
 use Rattle.store.specs.declared.inner.admit.Admitted.the-variants.{Ready as ready, Refused}
 use Rattle.store.specs.Checks.{unless}
-use Rattle.store.specs.Calls.{refused, context, Left, leaves, leavesAfter, zeros, kept, refusal, tooMuchWork, noRoom, madeAfter}
+use Rattle.store.specs.Calls.{refused, context, Left, leaves, leavesAfter, zeros, kept, refusal, tooMuchWork, noRoom, givesAfter}
 use Rattle.store.specs.Nested.{ifKnown, checked, checked-nested, both-known-nested}
+use Rattle.interning.specs.Interned.{More}
 use Rattle.interning.specs.Live.{Live, live-count, live-used, ready-live}
 use Rattle.merging.specs.Ends.{ends-most}
 use Rattle.merging.specs.Standing.{stateOf, Mergeable, Reached, Stuck}
@@ -38,10 +39,10 @@ use Rattle.contexts.specs.MergeCall.{mergeChecks, mergeCall}
 
 -- what is left once the numbers are known, with the outcome o of the work and x what is meant
 unfoldable pub worked : List ℕ → Outcome ℕ → ℕ × Store → Left
-worked w o x = elim (tooMuch o) [ true ↦ kept (refused 12) w | false ↦ elim (fits (x .1)) [ true ↦ madeAfter (countOf o) x | false ↦ kept (refused 6) w ] ]
+worked w o x = elim (tooMuch o) [ true ↦ kept (refused 12) w | false ↦ elim (fits (x .1)) [ true ↦ givesAfter (countOf o) (storeOf w) x | false ↦ kept (refused 6) w ] ]
 
 module _ (w : List ℕ) (x : ℕ × Store) where
-  worked-made : (c : ℕ) (t : State) → fits (x .1) ≡ true → worked w (done c t) x ≡ madeAfter (t .count) x
+  worked-made : (c : ℕ) (t : State) → fits (x .1) ≡ true → worked w (done c t) x ≡ givesAfter (t .count) (storeOf w) x
   unfolding worked tooMuch countOf
   worked-made c t f = rw (f, worked)
 
@@ -58,7 +59,7 @@ unfoldable pub mergedKnown : List ℕ → ℕ → ℕ → Bool → Left
 mergedKnown w a b m = worked w (counting m (storeOf w) a b) (mergeS m (storeOf w) a b)
 
 last-two : (w z : List ℕ) (o : Outcome ℕ) (x : ℕ × Store)
-    → unless (tooMuchWork o ∷ noRoom (x .1) ∷ []) (refusal w z) (madeAfter (countOf o) x) ≡ worked w o x
+    → unless (tooMuchWork o ∷ noRoom (x .1) ∷ []) (refusal w z) (givesAfter (countOf o) (storeOf w) x) ≡ worked w o x
 unfolding unless refusal worked
 last-two w z o x =
     bool? (tooMuch o)
@@ -71,8 +72,8 @@ unfolding mergeCall mergeChecks mergedKnown
 merge-nested w z a b m =
     let x = mergeS m (storeOf w) a b in
     let o = counting m (storeOf w) a b in
-    checked-nested w z _ (madeAfter (countOf o) x) ∙
-    ap (checked w z) (both-known-nested w z _ (madeAfter (countOf o) x) a b ∙ ap (λ (y : Left). ifKnown w a (ifKnown w b y)) (last-two w z o x))
+    checked-nested w z _ (givesAfter (countOf o) (storeOf w) x) ∙
+    ap (checked w z) (both-known-nested w z _ (givesAfter (countOf o) (storeOf w) x) a b ∙ ap (λ (y : Left). ifKnown w a (ifKnown w b y)) (last-two w z o x))
 
 module _ (m : Bool) (w z : List ℕ) (a b : ℕ) (v : Live w z) (ha : a < count w) (hb : b < count w) (y : List ℕ) (ey : Emptied z y) where
   -- with the cache cleared the cycle can begin, on an empty stack
@@ -108,16 +109,18 @@ module _ (m : Bool) (w z : List ℕ) (a b : ℕ) (v : Live w z) (ha : a < count 
   lb = rw (live-count v) at hb
 
   -- the merge is made
-  pub merge-made : (c : ℕ) (w′ u : List ℕ) → Reached y 0 (counted m (stateOf w y) a b) c w′ u → (n : ℕ) → n ≡ mergesCounted u
-      → (q : List ℕ) → q ≡ replicate (length u) 0 → leavesAfter n (context c) w′ q ≡ mergedKnown w a b m
+  pub merge-made : (c : ℕ) (w′ u : List ℕ) → Reached y 0 (counted m (stateOf w y) a b) c w′ u → (n k : ℕ) → n ≡ mergesCounted u
+      → More w k w′ → (q : List ℕ) → q ≡ replicate (length u) 0 → leavesAfter n k (context c) w′ q ≡ mergedKnown w a b m
   unfolding mergedKnown
-  merge-made c w′ u g n en q eq =
+  merge-made c w′ u g n k en more q eq =
       let e : counting m (storeOf w) a b ≡ done c (stateOf w′ u) = sym from-nothing ∙ g .is in
       let is : x ≡ (c, storeOf w′) = answer-is m (storeOf w) a b (v .good .sound) (v .good .fits) la lb c (stateOf w′ u) e in
       let f : fits (x .1) ≡ true = true-fits (x .1) (answer-fits m (storeOf w) a b (v .good .sound) (v .good .fits) la lb c (stateOf w′ u) e) in
-      let made : leavesAfter n (context c) w′ q ≡ madeAfter (mergesCounted u) (c, storeOf w′) =
-      (rw (en, eq, cleared u (g .live .index .sized))) ∙ ap (λ (y : List ℕ). leavesAfter (mergesCounted u) (context c) y zeros) (g .live .words) in
-      made ∙ ap (madeAfter (mergesCounted u)) (sym is) ∙ sym (ap (λ (o : Outcome ℕ). worked w o x) e ∙ worked-made w x c (stateOf w′ u) f)
+      let figure : k ≡ length (storeOf w′) - length (storeOf w) = omega (arith, more) in
+      let made : leavesAfter n k (context c) w′ q ≡ givesAfter (mergesCounted u) (storeOf w) (c, storeOf w′) =
+      (rw (en, figure, eq, cleared u (g .live .index .sized))) ∙
+      ap (λ (y : List ℕ). leavesAfter (mergesCounted u) (length (storeOf w′) - length (storeOf w)) (context c) y zeros) (g .live .words) in
+      made ∙ ap (givesAfter (mergesCounted u) (storeOf w)) (sym is) ∙ sym (ap (λ (o : Outcome ℕ). worked w o x) e ∙ worked-made w x c (stateOf w′ u) f)
 
   -- refused, and what was made is taken out again
   module _ (f : Refusal) (w₁ u : List ℕ) (o : counted m (stateOf w y) a b ≡ over (number f)) (s : Stuck w w₁ u) where

@@ -2,7 +2,7 @@
 use mathlib.Core.Path.{_≡_, refl, sym, ap, _∙_}
 use mathlib.Core.Bool.{Bool, true, false, not, _&&_, and-false}
 use mathlib.Core.List.{List, [], _∷_}
-use Prim.Native.Nat.{ℕ, _<_, _≤_}
+use Prim.Native.Nat.{ℕ, _-_, _<_, _≤_}
 use native.Mathlib.Omega.{arith}
 use lib.Dec.{eqb, ltb, leb}
 use lib.ListN.{length}
@@ -20,7 +20,7 @@ use Rattle.encoding.specs.Decide.Laws.{sound-true, true-fits}
 use Rattle.encoding.specs.Decoded.{decoded}
 use Rattle.store.specs.Checks.{given, unless}
 use Rattle.store.specs.Checks.Laws.{unless-first, unless-next}
-use Rattle.store.specs.Calls.{refused, context, Left, kept, refusal, unknownContext, noRoom, made}
+use Rattle.store.specs.Calls.{refused, context, Left, kept, refusal, unknownContext, noRoom, gives}
 use Rattle.store.specs.Nested.{ifLengths, ifSound, ifKnown, checked, grown, checked-nested, known-nested, room-nested}
 use Rattle.interning.specs.SingletonCall.{singleS, singletonChecks, singletonCall}
 
@@ -74,7 +74,10 @@ module _ (w z : List ℕ) (p r : ℕ) (l : length w ≡ storeWords) (s : sound w
   -- a store that nothing is added to leaves its words
   mark-kept : grown w (0, storeOf w) ≡ kept (context 0) w
   unfolding grown
-  mark-kept = let d = decoded w l (sound-true w l s) in rw (true-fits (storeOf w) (d .0 .fits), grown, ← d .1)
+  mark-kept =
+      let d = decoded w l (sound-true w l s) in
+      let n : length (storeOf w) - length (storeOf w) ≡ 0 = omega arith in
+      rw (true-fits (storeOf w) (d .0 .fits), grown, n, ← d .1)
 
   refused-5 : refusal w z 5 ≡ kept (refused 5) w
   unfolding refusal
@@ -84,11 +87,11 @@ module _ (w z : List ℕ) (p r : ℕ) (l : length w ≡ storeWords) (s : sound w
   no-5 a b e = rw e
 
   -- after the mark, and after any other state
-  state-nested : unless (given 5 (leb stop r && not (eqb r emptyMark)) ∷ noRoom (singleS (storeOf w) p r .1) ∷ []) (refusal w z) (made (singleS (storeOf w) p r))
+  state-nested : unless (given 5 (leb stop r && not (eqb r emptyMark)) ∷ noRoom (singleS (storeOf w) p r .1) ∷ []) (refusal w z) (gives (storeOf w) (singleS (storeOf w) p r))
       ≡ ifState w r (placedSingle w p r)
   unfolding placedSingle
   state-nested =
-      let next = unless-next (refusal w z) (made (singleS (storeOf w) p r)) (given 5 (leb stop r && not (eqb r emptyMark))) (noRoom (singleS (storeOf w) p r .1) ∷ []) in
+      let next = unless-next (refusal w z) (gives (storeOf w) (singleS (storeOf w) p r)) (given 5 (leb stop r && not (eqb r emptyMark))) (noRoom (singleS (storeOf w) p r .1) ∷ []) in
       bool? (eqb r emptyMark)
       (λ e. next (rw e (and-false (leb stop r))) ∙ rw (single-mark (storeOf w) p r e) (room-nested w z (0, storeOf w) ∙ mark-kept ∙ sym (state-mark w r _ e)))
       (λ e. below? r stop
@@ -98,5 +101,5 @@ module _ (w z : List ℕ) (p r : ℕ) (l : length w ≡ storeWords) (s : sound w
 pub singleton-nested : (w z : List ℕ) (p r : ℕ) → singletonCall w z p r ≡ checked w z (ifKnown w p (ifState w r (placedSingle w p r)))
 unfolding singletonCall singletonChecks
 singleton-nested w z p r =
-    checked-nested w z _ (made (singleS (storeOf w) p r)) ∙
-    checked-agree w z _ _ (λ l s. known-nested w z _ (made (singleS (storeOf w) p r)) p ∙ ap (ifKnown w p) (state-nested w z p r l s))
+    checked-nested w z _ (gives (storeOf w) (singleS (storeOf w) p r)) ∙
+    checked-agree w z _ _ (λ l s. known-nested w z _ (gives (storeOf w) (singleS (storeOf w) p r)) p ∙ ap (ifKnown w p) (state-nested w z p r l s))

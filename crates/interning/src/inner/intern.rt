@@ -12,52 +12,53 @@ ghost use Rattle.interning.specs.Interned.{Interns, Missing};
 ghost use Rattle.interning.specs.Live.{Pushed};
 ghost use Rattle.index.specs.Records.{Proper};
 
-// A context's number, or no room for one more.
-pub enum Made {
-    At(ContextId),
+// What interning answers: a context that was there, one that was made, or no room for one more.
+pub enum Interned {
+    Found(ContextId),
+    Made(ContextId),
     NoRoom,
 }
 
 // Makes a singleton of the one entry on the stack, which no record is.
-fn push_single(store: &mut [u32], scratch: &mut [u32], at: usize, hash: u64) -> Made
+fn push_single(store: &mut [u32], scratch: &mut [u32], at: usize, hash: u64) -> Interned
     requires { ⌜ Missing (now store) (now scratch) at 1 hash ⌝ }
     ensures { λ r. ⌜ Interns (now (store .entry)) (now (scratch .entry)) at 1 r (now (store .exit)) (now (scratch .exit)) ⌝ }
 {
     let count = layout::count_of(store) as usize;
     let used = layout::used_of(store) as usize;
     if MOST_CONTEXTS <= count {
-        return Made::NoRoom;
+        return Interned::NoRoom;
     }
     let parent = index::stack_parent(scratch, at);
     let state = index::stack_state(scratch, at);
     put_record(store, count, 1, parent, state);
     put_counts(store, count + 1, used);
     index::add_to_index(scratch, count, hash);
-    Made::At(ContextId(count as u32))
+    Interned::Made(ContextId(count as u32))
 }
 
 // Makes an array of the n entries on the stack, which no record has.
-fn push_array(store: &mut [u32], scratch: &mut [u32], at: usize, n: usize, hash: u64) -> Made
+fn push_array(store: &mut [u32], scratch: &mut [u32], at: usize, n: usize, hash: u64) -> Interned
     requires { ⌜ Missing (now store) (now scratch) at n hash × (2 ≤ n) ⌝ }
     ensures { λ r. ⌜ Interns (now (store .entry)) (now (scratch .entry)) at n r (now (store .exit)) (now (scratch .exit)) ⌝ }
 {
     let count = layout::count_of(store) as usize;
     let used = layout::used_of(store) as usize;
     if MOST_CONTEXTS <= count {
-        return Made::NoRoom;
+        return Interned::NoRoom;
     }
     if MOST_ENTRIES - used < n {
-        return Made::NoRoom;
+        return Interned::NoRoom;
     }
     fill_pool(store, scratch, used, at, n);
     put_record(store, count, 2, used as u32, n as u32);
     put_counts(store, count + 1, used + n);
     index::add_to_index(scratch, count, hash);
-    Made::At(ContextId(count as u32))
+    Interned::Made(ContextId(count as u32))
 }
 
 // Makes a context of the n entries on the stack, which no record has.
-fn push_new(store: &mut [u32], scratch: &mut [u32], at: usize, n: usize, hash: u64) -> Made
+fn push_new(store: &mut [u32], scratch: &mut [u32], at: usize, n: usize, hash: u64) -> Interned
     requires { ⌜ Missing (now store) (now scratch) at n hash ⌝ }
     ensures { λ r. ⌜ Interns (now (store .entry)) (now (scratch .entry)) at n r (now (store .exit)) (now (scratch .exit)) ⌝ }
 {
@@ -68,7 +69,7 @@ fn push_new(store: &mut [u32], scratch: &mut [u32], at: usize, n: usize, hash: u
 }
 
 // The number of the n entries on the stack, one at least and not `$` alone.
-fn intern_proper(store: &mut [u32], scratch: &mut [u32], at: usize, n: usize) -> Made
+fn intern_proper(store: &mut [u32], scratch: &mut [u32], at: usize, n: usize) -> Interned
     requires { ⌜ Pushed (now store) (now scratch) at n × Proper (now scratch) at n ⌝ }
     ensures { λ r. ⌜ Interns (now (store .entry)) (now (scratch .entry)) at n r (now (store .exit)) (now (scratch .exit)) ⌝ }
 {
@@ -78,19 +79,19 @@ fn intern_proper(store: &mut [u32], scratch: &mut [u32], at: usize, n: usize) ->
     let Lookup::At(context) = found else {
         return push_new(store, scratch, at, n, hash);
     };
-    Made::At(context)
+    Interned::Found(context)
 }
 
 // The number of the n entries on the stack: of none, or of `$` alone, it is 0.
-pub fn intern_entries(store: &mut [u32], scratch: &mut [u32], at: usize, n: usize) -> Made
+pub fn intern_entries(store: &mut [u32], scratch: &mut [u32], at: usize, n: usize) -> Interned
     requires { ⌜ Pushed (now store) (now scratch) at n ⌝ }
     ensures { λ r. ⌜ Interns (now (store .entry)) (now (scratch .entry)) at n r (now (store .exit)) (now (scratch .exit)) ⌝ }
 {
     if n == 0 {
-        return Made::At(ContextId(0));
+        return Interned::Found(ContextId(0));
     }
     if index::stack_state(scratch, at) == COMPACT_EMPTY_RETURN_STATE {
-        return Made::At(ContextId(0));
+        return Interned::Found(ContextId(0));
     }
     intern_proper(store, scratch, at, n)
 }

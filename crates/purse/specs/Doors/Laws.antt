@@ -8,23 +8,30 @@ use Rattle.verdicts.specs.Calls.{VerdictReply, VerdictLeft, verdictLeft}
 use Rattle.sets.specs.Calls.{SetReply, SetLeft, setLeft, freshSetCall}
 use Rattle.contexts.specs.Replies.{merged}
 use Rattle.contexts.specs.declared.merges.Merged.{Merged}
-use Rattle.contexts.specs.declared.merges.Merged.the-variants.{Number, Refused}
-use Rattle.configs.specs.Replies.{addedReply, mergesOf, addedLeft}
+use Rattle.contexts.specs.declared.merges.Merged.the-variants.{Number as MergedTo, Refused as NotMerged}
+use Rattle.interning.specs.Replies.{numbered}
+use Rattle.interning.specs.declared.single.Numbered.{Numbered}
+use Rattle.interning.specs.declared.single.Numbered.the-variants.{Number, Refused as NotNumbered}
+use Rattle.configs.specs.Replies.{addedLeft}
 use Rattle.configs.specs.declared.adding.Added.{Added}
 use Rattle.answers.specs.declared.structs.CountedAnswer.{CountedAnswer}
-use Rattle.answers.specs.SetAnswers.{setAnswerOf, setNumberOf}
+use Rattle.answers.specs.SetAnswers.{setCountedOf, setNumberOf}
 use Rattle.purse.specs.Doors.{OpensSet, OpensVerdict, Opens, OpensCounted, OpensSetCounted}
-use Rattle.answers.specs.Answers.{answerOf, withMerges, numberOf}
+use Rattle.answers.specs.Answers.{countedOf, numberOf}
 
 -- a struct for the reply x beside the words that the call left
 pub door : {A : Type 0} (of : Reply → A) (a : A) (x : Reply) (w z : List ℕ) (l : Left) → a ≡ of x → leaves x w z ≡ l → Opens of l a w z
 door of a x w z l h e = (h ∙ ap (λ (o : Left). of (o .reply)) e, ap (λ (o : Left). o .store) e, ap (λ (o : Left). o .scratch) e)
 
--- with the merges that a merge counts
-pub counted-door : (a : CountedAnswer) (r : Merged) (w z : List ℕ) (l : Left) → a ≡ withMerges (answerOf (merged r [] [] .reply)) (merged r [] [] .merges)
-    → merged r w z ≡ l → OpensCounted l a w z
-counted-door a (Number c n) w z l h e = rw (← e) (h, refl, refl)
-counted-door a (Refused f) w z l h e = rw (← e) (h, refl, refl)
+-- with what is counted
+module _ (a : CountedAnswer) (w z : List ℕ) (l : Left) where
+  pub number-door : (r : Numbered) → a ≡ countedOf (numbered r [] []) → numbered r w z ≡ l → OpensCounted l a w z
+  number-door (Number c k) h e = rw (← e) (h, refl, refl)
+  number-door (NotNumbered f) h e = rw (← e) (h, refl, refl)
+
+  pub merge-door : (r : Merged) → a ≡ countedOf (merged r [] []) → merged r w z ≡ l → OpensCounted l a w z
+  merge-door (MergedTo c k) h e = rw (← e) (h, refl, refl)
+  merge-door (NotMerged f) h e = rw (← e) (h, refl, refl)
 
 pub counted-determined : (x : Left) (a b : CountedAnswer) (w z v y : List ℕ) → OpensCounted x a w z → OpensCounted x b v y → (a ≡ b) × (w ≡ v) × (z ≡ y)
 counted-determined x a b w z v y p q = (p .0 ∙ sym (q .0), p .1 ∙ sym (q .1), p .2 ∙ sym (q .2))
@@ -43,7 +50,7 @@ pub set-door : {A : Type 0} (of : SetReply → A) (a : A) (x : SetReply) (w v z 
 set-door of a x w v z l h e =
     (h ∙ ap (λ (o : SetLeft). of (o .reply)) e, ap (λ (o : SetLeft). o .store) e, ap (λ (o : SetLeft). o .set) e, ap (λ (o : SetLeft). o .scratch) e)
 
-pub set-counted-door : (a : CountedAnswer) (r : Added) (w v z : List ℕ) (l : SetLeft) → a ≡ withMerges (setAnswerOf (addedReply r)) (mergesOf r)
+pub set-counted-door : (a : CountedAnswer) (r : Added) (w v z : List ℕ) (l : SetLeft) → a ≡ setCountedOf (addedLeft r [] [] [])
     → addedLeft r w v z ≡ l → OpensSetCounted l a w v z
 set-counted-door a r w v z l h e = rw (← e) (h, refl, refl, refl)
 

@@ -11,7 +11,7 @@ use Rattle.arena.specs.Store.{nodeAt}
 use Rattle.layout.specs.Layout.{scratchWords}
 use Rattle.layout.specs.Decode.{storeOf}
 use Rattle.store.specs.Admit.{cleared}
-use Rattle.store.specs.Calls.{Reply, done, Left, leaves, asked}
+use Rattle.store.specs.Calls.{done, Left, asked}
 use Rattle.contexts.specs.Replies.{merged}
 use Rattle.contexts.specs.declared.merges.Merged.{Merged}
 use Rattle.contexts.specs.declared.merges.Merged.the-variants.{Number as Counted, Refused as notMerged}
@@ -22,7 +22,7 @@ use Rattle.interning.specs.Replies.{numbered}
 use Rattle.interning.specs.declared.single.Numbered.{Numbered}
 use Rattle.interning.specs.declared.single.Numbered.the-variants.{Number, Refused as notNumbered}
 use Rattle.lines.specs.Laid.{Wrote}
-use Rattle.lines.specs.Lines.{numberLine, contextLine, refusalLine, entriesLine}
+use Rattle.lines.specs.Lines.{numberLine, numbersLine, contextLine, refusalLine, entriesLine}
 use Rattle.replies.specs.Replies.{Lent, lent, wiped, lineOf, Printed, onStore}
 
 -- the reply x is laid in the buffer b, and the words are x's
@@ -43,8 +43,12 @@ module _ (z : List ℕ) where
 
 -- ---- a call on contexts, which leaves x; `done` prints e
 
+-- the line of what is left
+abbrev pub leftLine : List ℕ → Left → List ℕ
+leftLine e x = lineOf e (x .made) (x .reply)
+
 pub record Replied (b e : List ℕ) (x : Left) (r : ℕ) (u w z : List ℕ) : Type 0 where
-  pub wrote : Wrote b 0 (lineOf e (x .reply)) r u
+  pub wrote : Wrote b 0 (leftLine e x) r u
   pub store : w ≡ x .store
   pub scratch : z ≡ x .scratch
 
@@ -58,23 +62,24 @@ on-store b e x r u w v t z l p f g = record {
 -- ---- a call that may make a context
 
 module _ (b : List ℕ) (j : ℕ) (u : List ℕ) (a : Numbered) where
-  pub context-line : (c : ContextId) → a ≡ Number c → Wrote b 0 (numberLine 67 (c .0)) j u → Wrote b 0 (lineOf [] (numbered a)) j u
+  pub context-line : (c : ContextId) (k : ℕ) → a ≡ Number c k → Wrote b 0 (numbersLine 67 (c .0) k) j u → Wrote b 0 (leftLine [] (numbered a [] [])) j u
   unfolding lineOf contextLine
-  context-line c e v = rw e v
+  context-line c k e v = rw e v
 
-  pub refusal-line : (f : Refusal) (n : ℕ) → a ≡ notNumbered f → n ≡ number f → Wrote b 0 (numberLine 82 n) j u → Wrote b 0 (lineOf [] (numbered a)) j u
+  pub refusal-line : (f : Refusal) (n : ℕ) → a ≡ notNumbered f → n ≡ number f → Wrote b 0 (numberLine 82 n) j u → Wrote b 0 (leftLine [] (numbered a [] [])) j u
   unfolding lineOf refusalLine
   refusal-line f n e q v = rw e (rw q at v)
 
-pub replied-call : (b : List ℕ) (x : Left) (a : Numbered) (r : ℕ) (u w z : List ℕ) → leaves (numbered a) w z ≡ x
-    → Wrote b 0 (lineOf [] (numbered a)) r u → Replied b [] x r u w z
-replied-call b x a r u w z e v = rw (← e) (record { wrote = v; store = refl; scratch = refl })
+pub replied-call : (b : List ℕ) (x : Left) (a : Numbered) (r : ℕ) (u w z : List ℕ) → numbered a w z ≡ x
+    → Wrote b 0 (leftLine [] (numbered a [] [])) r u → Replied b [] x r u w z
+replied-call b x (Number c k) r u w z e v = rw (← e) (record { wrote = v; store = refl; scratch = refl })
+replied-call b x (notNumbered f) r u w z e v = rw (← e) (record { wrote = v; store = refl; scratch = refl })
 
--- the same of a merge, whose count no line has
-pub replied-merge : (b : List ℕ) (x : Left) (a : Merged) (n : Reply) (r : ℕ) (u w z : List ℕ) → merged a w z ≡ x → n ≡ merged a [] [] .reply
-    → Wrote b 0 (lineOf [] n) r u → Replied b [] x r u w z
-replied-merge b x (Counted c k) n r u w z e q v = rw (← e) (record { wrote = rw q at v; store = refl; scratch = refl })
-replied-merge b x (notMerged f) n r u w z e q v = rw (← e) (record { wrote = rw q at v; store = refl; scratch = refl })
+-- the same of a merge, of which no line has the merges counted
+pub replied-merge : (b : List ℕ) (x : Left) (a : Merged) (line : List ℕ) (r : ℕ) (u w z : List ℕ) → merged a w z ≡ x → line ≡ leftLine [] (merged a [] [])
+    → Wrote b 0 line r u → Replied b [] x r u w z
+replied-merge b x (Counted c k) line r u w z e q v = rw (← e) (record { wrote = rw q at v; store = refl; scratch = refl })
+replied-merge b x (notMerged f) line r u w z e q v = rw (← e) (record { wrote = rw q at v; store = refl; scratch = refl })
 
 -- ---- the entries of a context
 

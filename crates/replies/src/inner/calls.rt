@@ -4,6 +4,7 @@ use interning::Numbered;
 use layout::SCRATCH_WORDS;
 use lines::inner::entries::lay_entries;
 use lines::inner::numbers::lay_number;
+use lines::inner::numbers::lay_numbers;
 use store::inner::admit::Admitted;
 use store::inner::ask::ask;
 use words::ContextId;
@@ -20,8 +21,8 @@ ghost use Rattle.contexts.specs.MergeCall.{mergeCall};
 ghost use Rattle.contexts.specs.Replies.{merged};
 ghost use Rattle.lines.specs.Laid.{Wrote};
 ghost use Rattle.lines.specs.Lines.{entriesLine, lineBytes};
-ghost use Rattle.replies.specs.Replies.Laws.{Replied};
-ghost use Rattle.replies.specs.Replies.{lineOf, wiped};
+ghost use Rattle.replies.specs.Replies.Laws.{Replied, leftLine};
+ghost use Rattle.replies.specs.Replies.{wiped};
 
 // Leaves the scratch as what does not work in it does: 0, but one of a wrong length stays.
 pub fn wipe(scratch: &mut [u32])
@@ -35,10 +36,10 @@ pub fn wipe(scratch: &mut [u32])
 // Lays the line of a call that may make a context.
 fn lay_numbered(out: &mut [u8], answer: Numbered) -> usize
     requires { ⌜ length (now out) ≡ lineBytes ⌝ }
-    ensures { λ r. ⌜ Wrote (now (out .entry)) 0 (lineOf [] (numbered answer)) r (now (out .exit)) ⌝ }
+    ensures { λ r. ⌜ Wrote (now (out .entry)) 0 (leftLine [] (numbered answer [] [])) r (now (out .exit)) ⌝ }
 {
     match answer {
-        Numbered::Number(context) => lay_number(out, b'C', context.0),
+        Numbered::Number(context, made) => lay_numbers(out, b'C', context.0, made),
         Numbered::Refused(refusal) => lay_number(out, b'R', words::refusal_number(refusal)),
     }
 }
@@ -59,12 +60,12 @@ pub fn singleton(
     lay_numbered(out, answer)
 }
 
-// The answer to a merge without its count, which no line has.
+// The answer to a merge without the merges counted, which no line has.
 fn uncounted(answer: Merged) -> Numbered
-    ensures { λ r. ⌜ numbered r ≡ merged answer [] [] .reply ⌝ }
+    ensures { λ r. ⌜ leftLine [] (numbered r [] []) ≡ leftLine [] (merged answer [] []) ⌝ }
 {
     match answer {
-        Merged::Number(context, _) => Numbered::Number(context),
+        Merged::Number(context, work) => Numbered::Number(context, work.made),
         Merged::Refused(refusal) => Numbered::Refused(refusal),
     }
 }

@@ -3,6 +3,7 @@ use configs::Added;
 use configs::Settled;
 use lines::inner::numbers::lay_letter;
 use lines::inner::numbers::lay_number;
+use lines::inner::numbers::lay_numbers;
 use replies::inner::calls::wipe;
 use setcheck::AtnConfig;
 ghost use mathlib.Core.Path.{_≡_};
@@ -11,11 +12,9 @@ ghost use mathlib.Core.List.{[]};
 ghost use lib.ListN.{length};
 ghost use Rattle.sets.specs.Calls.{addCall, closeCall};
 ghost use Rattle.setcheck.specs.Configs.{configOf};
-ghost use Rattle.configs.specs.Replies.{addedReply};
 ghost use Rattle.lines.specs.Laid.{Wrote};
 ghost use Rattle.lines.specs.Lines.{closedLine, lineBytes};
-ghost use Rattle.replies.specs.Replies.{setLineOf};
-ghost use Rattle.setreplies.specs.Settled.{Renewed, SetReplied};
+ghost use Rattle.setreplies.specs.Settled.{Renewed, SetReplied, addedLineOf};
 
 // Makes the lent words a set without configs.
 pub fn new_set(set: &mut [u32], scratch: &mut [u32], wildcard: bool, out: &mut [u8]) -> usize
@@ -35,11 +34,11 @@ pub fn new_set(set: &mut [u32], scratch: &mut [u32], wildcard: bool, out: &mut [
 // Lays the line of a config that was added, or the refusal.
 fn lay_added(out: &mut [u8], answer: Added) -> usize
     requires { ⌜ length (now out) ≡ lineBytes ⌝ }
-    ensures { λ r. ⌜ Wrote (now (out .entry)) 0 (setLineOf [] (addedReply answer)) r (now (out .exit)) ⌝ }
+    ensures { λ r. ⌜ Wrote (now (out .entry)) 0 (addedLineOf answer) r (now (out .exit)) ⌝ }
 {
     match answer {
-        Added::Inserted => lay_number(out, b'A', 1),
-        Added::Merged(_) => lay_number(out, b'A', 0),
+        Added::Inserted => lay_numbers(out, b'A', 1, 0),
+        Added::Merged(work) => lay_numbers(out, b'A', 0, work.made),
         Added::Refused(refusal) => lay_number(out, b'R', words::refusal_number(refusal)),
     }
 }

@@ -4,7 +4,8 @@ use mathlib.Core.Path.{_≡_, refl, sym, ap, _∙_}
 use mathlib.Core.Logic.{_↔_}
 use mathlib.Core.Bool.{Bool, true, false, not, _&&_}
 use mathlib.Core.List.{List, [], _∷_}
-use Prim.Native.Nat.{ℕ, _<_}
+use Prim.Native.Nat.{ℕ, _+_, _-_, _<_}
+use native.Mathlib.Omega.{arith}
 use lib.Dec.{eqb, ltb}
 use lib.ListN.{length}
 use borrow.Author.Tests.{eq-eqb, ne-eqb, eqb-true, eqb-false, ltb-true}
@@ -19,8 +20,8 @@ use Rattle.encoding.specs.Decide.Laws.{fits-true}
 use Rattle.work.specs.Counted.{Outcome, refused as over}
 use Rattle.work.specs.Counted.Laws.{is-too-much}
 use Rattle.store.specs.Checks.{Check, unless, due}
-use Rattle.store.specs.Checks.Laws.{Clear, absent, unless-first, unless-next, due-leaves, refused-due, clear-of}
-use Rattle.store.specs.Calls.{refused, context, Left, zeros, refusal, wrongLength, unsoundStore, unknownContext, noRoom, tooMuchWork, madeAfter, Accepts}
+use Rattle.store.specs.Checks.Laws.{Clear, absent, unless-first, unless-next, due-leaves, refused-due, clear-of, by-unless}
+use Rattle.store.specs.Calls.{refused, context, Left, zeros, refusal, wrongLength, unsoundStore, unknownContext, noRoom, tooMuchWork, givesAfter, Accepts}
 
 -- ---- two outcomes that satisfy one contract are equal
 
@@ -38,6 +39,10 @@ module _ (w z : List ℕ) (n : ℕ) where
   unfolding refusal
   refusal-store = two n 2 (λ e. rw (eq-eqb n 2 e, refusal)) (λ d. rw (ne-eqb n 2 d, refusal))
 
+  pub refusal-made : refusal w z n .made ≡ 0
+  unfolding refusal
+  refusal-made = two n 2 (λ e. rw (eq-eqb n 2 e, refusal)) (λ d. rw (ne-eqb n 2 d, refusal))
+
   pub refusal-scratch : (n ≡ 2 → refusal w z n .scratch ≡ z) × ((n ≡ 2 → ⊥) → refusal w z n .scratch ≡ zeros)
   unfolding refusal
   refusal-scratch = (λ e. rw (eq-eqb n 2 e, refusal), λ d. rw (ne-eqb n 2 d, refusal))
@@ -45,10 +50,10 @@ module _ (w z : List ℕ) (n : ℕ) where
 same-number : (n m : ℕ) → refused m ≡ refused n → m ≡ n
 same-number n m e = cc
 
-same-context : (a b : ℕ) → context a ≡ context b → a ≡ b
+pub same-context : (a b : ℕ) → context a ≡ context b → a ≡ b
 same-context a b e = cc
 
-not-context : (n c : ℕ) → context c ≡ refused n → ⊥
+pub not-context : (n c : ℕ) → context c ≡ refused n → ⊥
 not-context n c e = never (cc)
 
 -- ---- a call whose answer, where it is not refused, is no refusal
@@ -90,22 +95,42 @@ zero-after w z cs go lw lz a h =
 -- ---- an accepted call
 
 -- it has passed every check
-passed-all : (w z : List ℕ) (cs : List Check) (n : ℕ) (x : ℕ × Store) (c : ℕ) (w′ : List ℕ) → Accepts (unless cs (refusal w z) (madeAfter n x)) c w′
-    → Clear cs × (unless cs (refusal w z) (madeAfter n x) ≡ madeAfter n x)
-passed-all w z cs n x c w′ a =
-    clear-of (refusal w z) (madeAfter n x) (λ m o. o .reply ≡ refused m) (refusal-reply w z) cs (λ m g. not-context m c (sym (a .0) ∙ g))
+passed-all : (w z : List ℕ) (cs : List Check) (n : ℕ) (s : Store) (x : ℕ × Store) (c : ℕ) (w′ : List ℕ) → Accepts (unless cs (refusal w z) (givesAfter n s x)) c w′
+    → Clear cs × (unless cs (refusal w z) (givesAfter n s x) ≡ givesAfter n s x)
+passed-all w z cs n s x c w′ a =
+    clear-of (refusal w z) (givesAfter n s x) (λ m o. o .reply ≡ refused m) (refusal-reply w z) cs (λ m g. not-context m c (sym (a .0) ∙ g))
 
 -- the number and the words are those that it made
-pub accepted : (w z : List ℕ) (cs : List Check) (n : ℕ) (x : ℕ × Store) (c : ℕ) (w′ : List ℕ) → Accepts (unless cs (refusal w z) (madeAfter n x)) c w′
+pub accepted : (w z : List ℕ) (cs : List Check) (n : ℕ) (s : Store) (x : ℕ × Store) (c : ℕ) (w′ : List ℕ) → Accepts (unless cs (refusal w z) (givesAfter n s x)) c w′
     → Clear cs × (x .0 ≡ c) × (wordsOf (x .1) ≡ w′)
-accepted w z cs n x c w′ a =
-    let k = passed-all w z cs n x c w′ a in
+accepted w z cs n s x c w′ a =
+    let k = passed-all w z cs n s x c w′ a in
     (k .0, same-context (x .0) c (ap (λ (o : Left). o .reply) (sym (k .1)) ∙ a .0), ap (λ (o : Left). o .store) (sym (k .1)) ∙ a .1)
 
 -- and the merges those that it counted
-pub accepted-merges : (w z : List ℕ) (cs : List Check) (n : ℕ) (x : ℕ × Store) (c : ℕ) (w′ : List ℕ) → Accepts (unless cs (refusal w z) (madeAfter n x)) c w′
-    → unless cs (refusal w z) (madeAfter n x) .merges ≡ n
-accepted-merges w z cs n x c w′ a = ap (λ (o : Left). o .merges) (passed-all w z cs n x c w′ a .1)
+pub accepted-merges : (w z : List ℕ) (cs : List Check) (n : ℕ) (s : Store) (x : ℕ × Store) (c : ℕ) (w′ : List ℕ) → Accepts (unless cs (refusal w z) (givesAfter n s x)) c w′
+    → unless cs (refusal w z) (givesAfter n s x) .merges ≡ n
+accepted-merges w z cs n s x c w′ a = ap (λ (o : Left). o .merges) (passed-all w z cs n s x c w′ a .1)
+
+-- and the contexts those that it made
+pub accepted-made : (w z : List ℕ) (cs : List Check) (n : ℕ) (s : Store) (x : ℕ × Store) (c : ℕ) (w′ : List ℕ) → Accepts (unless cs (refusal w z) (givesAfter n s x)) c w′
+    → unless cs (refusal w z) (givesAfter n s x) .made ≡ length (x .1) - length s
+accepted-made w z cs n s x c w′ a = ap (λ (o : Left). o .made) (passed-all w z cs n s x c w′ a .1)
+
+-- "how many contexts the call made: exactly the count after less the count before"; of a refused call too, which makes none
+pub made-exactly : (w z : List ℕ) (cs : List Check) (n : ℕ) (s : Store) (x : ℕ × Store)
+    → (Accepts (unless cs (refusal w z) (givesAfter n s x)) (x .0) (wordsOf (x .1)) → contexts w + (length (x .1) - length s) ≡ contexts (wordsOf (x .1)))
+    → contexts w + unless cs (refusal w z) (givesAfter n s x) .made ≡ contexts (unless cs (refusal w z) (givesAfter n s x) .store)
+made-exactly w z cs n s x h =
+    let call = unless cs (refusal w z) (givesAfter n s x) in
+    by-unless (refusal w z) (givesAfter n s x) (λ (l : Left). call ≡ l → contexts w + l .made ≡ contexts (l .store))
+    (λ m e. rw (refusal-made w z m, refusal-store w z m) (omega arith))
+    (λ e. h (ap (λ (l : Left). l .reply) e, ap (λ (l : Left). l .store) e))
+    cs refl
+
+-- "whether the context was found or made": found, and none made, exactly if its number was there before
+pub found-exactly : (w w′ : List ℕ) (c k : ℕ) → contexts w + k ≡ contexts w′ → c < contexts w′ → (c < contexts w → w′ ≡ w) → (k ≡ 0) ↔ (c < contexts w)
+found-exactly w w′ c k f h there = (λ e. omega arith, λ l. omega (arith, ap contexts (there l)))
 
 -- what a check that does not hold says
 not-false : (b : Bool) → not b ≡ false → b ≡ true

@@ -5,7 +5,8 @@ use std::cmp::Ordering;
 use super::index::{add, array_hash, find, hash_of, singleton_hash};
 use super::results::{count, keep, kept, merges, no_results};
 use super::{
-    ARRAY, DOLLAR, MOST_CONTEXTS, MOST_ENTRIES, PARENTS, RECORDS, SINGLETON, STATES, Scratch, Store, record,
+    ARRAY, DOLLAR, MOST_CONTEXTS, MOST_ENTRIES, Merged, PARENTS, RECORDS, SINGLETON, STATES, Scratch, Store,
+    record,
 };
 
 /// Parents and states of the entries under way, after the results kept.
@@ -27,22 +28,23 @@ struct Merge<'a> {
     wildcard: bool,
 }
 
-/// The merge of two known contexts of an indexed store, and how many merges were counted; where there is no
-/// room or it is too much work, what was made is taken out.
+/// The merge of two known contexts of an indexed store; where there is no room or it is too much work, what
+/// was made is taken out.
 pub fn merge_indexed(
     store: &mut Store,
     scratch: &mut Scratch,
     left: u32,
     right: u32,
     wildcard: bool,
-) -> Result<(u32, u32), u32> {
+) -> Result<Merged, u32> {
     let (count, pool) = (store[0] as usize, store[1] as usize);
     no_results(scratch);
     let merged = Merge { store, scratch, wildcard }.number(left, right, 0);
     if merged.is_err() {
         cut_back(store, count, pool);
     }
-    merged.map(|context| (context, merges(scratch)))
+    let (merges, made) = (merges(scratch), store[0] - count as u32);
+    merged.map(|context| Merged { context, merges, made })
 }
 
 fn cut_back(store: &mut Store, count: usize, pool: usize) {

@@ -28,9 +28,9 @@ const ARRAY: u32 = 2;
 /// The empty mark as stored.
 const DOLLAR: u32 = u32::MAX;
 
-/// A singleton's number, or the number of a refusal.
+/// A singleton's number, and how many contexts were made; or the number of a refusal.
 #[inline(never)]
-pub fn singleton(store: &mut [u32], scratch: &mut [u32], parent: u32, state: u64) -> Result<u32, u32> {
+pub fn singleton(store: &mut [u32], scratch: &mut [u32], parent: u32, state: u64) -> Result<(u32, u32), u32> {
     let Ok(store) = <&mut Store>::try_from(store) else {
         return Err(2);
     };
@@ -42,7 +42,12 @@ pub fn singleton(store: &mut [u32], scratch: &mut [u32], parent: u32, state: u64
     answer
 }
 
-fn singleton_in(store: &mut Store, scratch: &mut Scratch, parent: u32, state: u64) -> Result<u32, u32> {
+fn singleton_in(
+    store: &mut Store,
+    scratch: &mut Scratch,
+    parent: u32,
+    state: u64,
+) -> Result<(u32, u32), u32> {
     if !check(store, scratch) {
         return Err(1);
     }
@@ -51,7 +56,7 @@ fn singleton_in(store: &mut Store, scratch: &mut Scratch, parent: u32, state: u6
         return Err(4);
     }
     if state == u64::MAX {
-        return Ok(0);
+        return Ok((0, 0));
     }
     if state >= u64::from(DOLLAR) {
         return Err(5);
@@ -59,7 +64,7 @@ fn singleton_in(store: &mut Store, scratch: &mut Scratch, parent: u32, state: u6
     let state = state as u32;
     let hash = singleton_hash(hash_of(scratch, parent as usize), state);
     if let Some(known) = find(scratch, hash, |other| record(store, other) == [SINGLETON, parent, state]) {
-        return Ok(known as u32);
+        return Ok((known as u32, 0));
     }
     if count as usize == MOST_CONTEXTS {
         return Err(6);
@@ -67,10 +72,20 @@ fn singleton_in(store: &mut Store, scratch: &mut Scratch, parent: u32, state: u6
     let at = RECORDS + 3 * count as usize;
     store[at..at + 3].copy_from_slice(&[SINGLETON, parent, state]);
     store[0] = count + 1;
-    Ok(count)
+    Ok((count, 1))
 }
 
-/// The number of a merge, and how many merges were counted; or the number of a refusal.
+/// A merge that was answered.
+#[derive(Clone, Copy, Debug, Eq, PartialEq)]
+pub struct Merged {
+    pub context: u32,
+    /// How many merges were counted.
+    pub merges: u32,
+    /// How many contexts were made.
+    pub made: u32,
+}
+
+/// A merge, or the number of a refusal.
 #[inline(never)]
 pub fn merge(
     store: &mut [u32],
@@ -78,7 +93,7 @@ pub fn merge(
     left: u32,
     right: u32,
     wildcard: bool,
-) -> Result<(u32, u32), u32> {
+) -> Result<Merged, u32> {
     let Ok(store) = <&mut Store>::try_from(store) else {
         return Err(2);
     };

@@ -3,7 +3,7 @@
 use super::check::{all_zero, check};
 use super::index::mix;
 use super::merge::merge_indexed;
-use super::{Scratch, Store};
+use super::{Merged, Scratch, Store};
 
 const MOST_CONFIGS: usize = 256;
 const CONFIGS: usize = 2;
@@ -24,14 +24,19 @@ const BUCKETS: usize = 256;
 const HEADS: usize = 1_792;
 const LINKS: usize = HEADS + BUCKETS;
 
-/// Was the config inserted, and how many merges were counted? Or the number of a refusal.
+/// A config that was added.
+#[derive(Clone, Copy, Debug, Eq, PartialEq)]
+pub struct Added {
+    pub inserted: bool,
+    /// How many merges were counted.
+    pub merges: u32,
+    /// How many contexts were made.
+    pub made: u32,
+}
+
+/// Adds a config, or answers the number of a refusal.
 #[inline(never)]
-pub fn add(
-    store: &mut [u32],
-    set: &mut [u32],
-    scratch: &mut [u32],
-    config: Config,
-) -> Result<(bool, u32), u32> {
+pub fn add(store: &mut [u32], set: &mut [u32], scratch: &mut [u32], config: Config) -> Result<Added, u32> {
     let Ok(store) = <&mut Store>::try_from(store) else {
         return Err(2);
     };
@@ -46,12 +51,7 @@ pub fn add(
     answer
 }
 
-fn add_in(
-    store: &mut Store,
-    set: &mut Set,
-    scratch: &mut Scratch,
-    config: Config,
-) -> Result<(bool, u32), u32> {
+fn add_in(store: &mut Store, set: &mut Set, scratch: &mut Scratch, config: Config) -> Result<Added, u32> {
     if !check(store, scratch) {
         return Err(1);
     }
@@ -65,16 +65,16 @@ fn add_in(
         return Err(4);
     }
     let Some(place) = find(set, scratch, &config, bucket(&config)) else {
-        return insert(set, config).map(|()| (true, 0));
+        return insert(set, config).map(|()| Added { inserted: true, merges: 0, made: 0 });
     };
     let wildcard = set[1] & FULL_CONTEXT == 0;
     let mut held = *config_at(set, place);
-    let merges;
-    (held[2], merges) = merge_indexed(store, scratch, held[2], config[2], wildcard)?;
+    let Merged { context, merges, made } = merge_indexed(store, scratch, held[2], config[2], wildcard)?;
+    held[2] = context;
     held[4] = held[4].max(config[4]);
     held[5] |= config[5] & MARK;
     put(set, place, held);
-    Ok((false, merges))
+    Ok(Added { inserted: false, merges, made })
 }
 
 fn insert(set: &mut Set, config: Config) -> Result<(), u32> {

@@ -6,12 +6,13 @@ use judge::random::Random;
 use judge::set_makers::{any_config, random_set};
 use judge::{Call, Config, Lent, LentSet, Reply, SetCall};
 
-use super::{add, merge, singleton};
+use super::sets::Added;
+use super::{Merged, add, merge, singleton};
 
 fn agree(words: Vec<u32>, scratch: &[u32], parent: u32, state: u64, what: &str) {
     let (mut store, mut after) = (words.clone(), scratch.to_vec());
     let reply = match singleton(&mut store, &mut after, parent, state) {
-        Ok(context) => Reply::Context(context),
+        Ok((context, made)) => Reply::Interned { context, made },
         Err(refusal) => Reply::Refused(refusal),
     };
     let judged = Lent::new(words).outcome(&Call::Singleton { parent, state }, scratch);
@@ -60,7 +61,7 @@ fn agree_on_set(lent: &LentSet<'_>, scratch: &[u32], config: Config, what: &str)
     let (mut store, mut set) = (lent.store().words().to_vec(), lent.words().to_vec());
     let mut after = scratch.to_vec();
     let reply = match add(&mut store, &mut set, &mut after, config.words()) {
-        Ok((inserted, merges)) => Reply::Added { inserted, merges },
+        Ok(Added { inserted, merges, made }) => Reply::Added { inserted, merges, made },
         Err(refusal) => Reply::Refused(refusal),
     };
     let judged = lent.outcome(&SetCall::Add(config), scratch);
@@ -101,7 +102,7 @@ fn on_merges() {
         let (wildcard, scratch) = (random.chance(50), random.words(SCRATCH_WORDS));
         let (mut words, mut after) = (store.words(), scratch.clone());
         let reply = match merge(&mut words, &mut after, left, right, wildcard) {
-            Ok((context, merges)) => Reply::Merged { context, merges },
+            Ok(Merged { context, merges, made }) => Reply::Merged { context, merges, made },
             Err(refusal) => Reply::Refused(refusal),
         };
         let judged = Lent::new(store.words()).outcome(&Call::Merge { left, right, wildcard }, &scratch);

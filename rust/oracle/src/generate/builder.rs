@@ -30,7 +30,7 @@ impl Builder {
     /// The answer of a record that makes or finds a context; 0 where it is refused.
     fn context(&mut self, record: Record) -> u32 {
         match self.put(record) {
-            Some(Reply::Context(number)) => number,
+            Some(Reply::Context { number, .. }) => number,
             _ => 0,
         }
     }

@@ -125,19 +125,20 @@ impl Machine {
             return Err(BAD_STATE);
         }
         let state = usize::try_from(state).expect("the oracle's host has 64 bits");
-        self.within_ceilings(|machine| machine.arena.singleton(parent, state))
-            .map(|context| Reply::Context(context.0))
+        let before = self.contexts();
+        let context = self.within_ceilings(|machine| machine.arena.singleton(parent, state))?;
+        Ok(Reply::Context { number: context.0, made: self.made_since(before) })
     }
 
     fn merge(&mut self, left: u32, right: u32, mode: Mode) -> Result<Reply, Refusal> {
         let left = self.known(left)?;
         let right = self.known(right)?;
-        let wildcard = mode == Mode::Wildcard;
-        self.counting(left, right, wildcard, |machine| {
+        let (wildcard, before) = (mode == Mode::Wildcard, self.contexts());
+        let context = self.counting(left, right, wildcard, |machine| {
             let workspace = &mut machine.workspace;
             machine.arena.merge(left, right, wildcard, workspace)
-        })
-        .map(|context| Reply::Context(context.0))
+        })?;
+        Ok(Reply::Context { number: context.0, made: self.made_since(before) })
     }
 
     /// The runtime's own merge of known contexts, with nothing judged or counted around it: to be timed.
@@ -162,15 +163,22 @@ impl Machine {
         match place {
             Some(at) => self.join(at, config),
             None if self.set.len() == MOST_CONFIGS => Err(SET_FULL),
-            None => Ok(Reply::Added { inserted: self.set.add(config, &mut self.arena, &mut self.workspace) }),
+            None => Ok(self.insert(config)),
         }
+    }
+
+    /// Puts a config last, whose key is new and for which there is room.
+    fn insert(&mut self, config: AtnConfig) -> Reply {
+        let before = self.contexts();
+        let inserted = self.set.add(config, &mut self.arena, &mut self.workspace);
+        Reply::Added { inserted, made: self.made_since(before) }
     }
 
     /// Adds a config to the one of its key, which stands at `at`: their contexts are merged.
     fn join(&mut self, at: usize, config: AtnConfig) -> Result<Reply, Refusal> {
         let before = self.set.configs[at].clone();
         let flags = (self.set.has_semantic_context, self.set.dips_into_outer_context);
-        let wildcard = !self.set.full_context;
+        let (wildcard, contexts) = (!self.set.full_context, self.contexts());
         let merged = self.counting(before.context, config.context, wildcard, |machine| {
             let Machine { arena, set, workspace, .. } = machine;
             assert!(!set.add(config, arena, workspace), "the key is known");
@@ -180,7 +188,7 @@ impl Machine {
             self.set.configs[at] = before;
             (self.set.has_semantic_context, self.set.dips_into_outer_context) = flags;
         }
-        merged.map(|_| Reply::Added { inserted: false })
+        merged.map(|_| Reply::Added { inserted: false, made: self.made_since(contexts) })
     }
 
     /// The runtime's own `add`, of a known context to an open set, with nothing judged around it: to be timed.
@@ -284,6 +292,12 @@ impl Machine {
     fn close(&mut self) -> Reply {
         self.set.set_readonly(true);
         Reply::Closed
+    }
+
+    /// Contexts that the arena has more than before a call (request A3). The runtime has no such answer, so demand
+    /// 2 compares the other fields of a reply; this one is confirmed by the count of the arena's own records.
+    fn made_since(&self, before: usize) -> u32 {
+        narrow(self.contexts() - before)
     }
 
     fn known(&self, context: u32) -> Result<ContextId, Refusal> {

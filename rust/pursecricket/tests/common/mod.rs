@@ -9,7 +9,7 @@ use std::fmt::Display;
 use judge::layout::{SCRATCH_WORDS, narrow};
 use judge::random::Random;
 use judge::{Call, Lent, Outcome, Reply, Store};
-use pursecricket::{ContextId, Merged, Refusal, ReturnState, raw};
+use pursecricket::{ContextId, Interned, Merged, Refusal, ReturnState, raw};
 
 /// What the port leaves of these words.
 pub fn run(call: &Call, store: &[u32], scratch: &[u32]) -> Outcome {
@@ -17,7 +17,7 @@ pub fn run(call: &Call, store: &[u32], scratch: &[u32]) -> Outcome {
     let reply = match *call {
         Call::Fresh => raw::fresh(&mut store).map(|()| Reply::Done),
         Call::Singleton { parent, state } => {
-            raw::singleton(&mut store, &mut scratch, ContextId(parent), ReturnState(state)).map(context)
+            raw::singleton(&mut store, &mut scratch, ContextId(parent), ReturnState(state)).map(interned)
         }
         Call::Merge { left, right, wildcard } => merge(&mut store, &mut scratch, left, right, wildcard),
         Call::Len { context } => raw::len(&store, &mut scratch, ContextId(context)).map(Reply::Count),
@@ -40,8 +40,8 @@ pub fn run(call: &Call, store: &[u32], scratch: &[u32]) -> Outcome {
     Outcome { reply, store, scratch }
 }
 
-fn context(number: ContextId) -> Reply {
-    Reply::Context(number.0)
+fn interned(Interned { context, made }: Interned) -> Reply {
+    Reply::Interned { context: context.0, made }
 }
 
 fn merge(
@@ -51,9 +51,9 @@ fn merge(
     right: u32,
     wildcard: bool,
 ) -> Result<Reply, Refusal> {
-    let Merged { context, merges } =
+    let Merged { context, merges, made } =
         raw::merge(store, scratch, ContextId(left), ContextId(right), wildcard)?;
-    Ok(Reply::Merged { context: context.0, merges })
+    Ok(Reply::Merged { context: context.0, merges, made })
 }
 
 /// Runs a call and compares all that it leaves with the judge; answers what both left.

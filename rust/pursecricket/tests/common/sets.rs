@@ -27,7 +27,7 @@ pub fn run(call: &SetCall, store: &[u32], set: &[u32], scratch: &[u32]) -> SetOu
     let reply = match call {
         SetCall::Fresh { full_context } => raw::fresh_set(&mut set, *full_context).map(|()| Reply::Done),
         SetCall::Add(config) => raw::add(&mut store, &mut set, &mut scratch, given(config))
-            .map(|Added { inserted, merges }| Reply::Added { inserted, merges }),
+            .map(|Added { inserted, merges, made }| Reply::Added { inserted, merges, made }),
         SetCall::Close => raw::close(&store, &mut set, &mut scratch).map(|()| Reply::Done),
     };
     let reply = reply.unwrap_or_else(|refusal| Reply::Refused(refusal.number()));

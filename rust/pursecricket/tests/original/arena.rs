@@ -6,8 +6,8 @@ use pursecricket::{ContextArena, ContextId, EMPTY_CONTEXT, EMPTY_RETURN_STATE, R
 #[test]
 fn arena_interns_singletons_without_per_context_objects() -> Result<(), Refusal> {
     let mut arena = ContextArena::new();
-    let first = arena.singleton(EMPTY_CONTEXT, ReturnState(7))?;
-    let second = arena.singleton(EMPTY_CONTEXT, ReturnState(7))?;
+    let first = arena.singleton(EMPTY_CONTEXT, ReturnState(7))?.context;
+    let second = arena.singleton(EMPTY_CONTEXT, ReturnState(7))?.context;
 
     assert_eq!(first, second);
     assert_eq!(singleton_contexts(&arena), 1);
@@ -19,8 +19,8 @@ fn arena_interns_singletons_without_per_context_objects() -> Result<(), Refusal>
 #[test]
 fn array_interner_verifies_payload_after_hash_collision() -> Result<(), Refusal> {
     let mut arena = ContextArena::new();
-    let first_parent = arena.singleton(EMPTY_CONTEXT, ReturnState(1))?;
-    let second_parent = arena.singleton(EMPTY_CONTEXT, ReturnState(2))?;
+    let first_parent = arena.singleton(EMPTY_CONTEXT, ReturnState(1))?.context;
+    let second_parent = arena.singleton(EMPTY_CONTEXT, ReturnState(2))?.context;
     let expected = [(first_parent, 10), (second_parent, 20)];
     let colliding = [(second_parent, 10), (first_parent, 20)];
     let collision = array(&mut arena, &colliding)?;
@@ -36,7 +36,7 @@ fn array_interner_verifies_payload_after_hash_collision() -> Result<(), Refusal>
 #[test]
 fn merge_with_empty_preserves_full_context_empty_path() -> Result<(), Refusal> {
     let mut arena = ContextArena::new();
-    let singleton = arena.singleton(EMPTY_CONTEXT, ReturnState(42))?;
+    let singleton = arena.singleton(EMPTY_CONTEXT, ReturnState(42))?.context;
 
     let merged = arena.merge(singleton, EMPTY_CONTEXT, false)?.context;
 
@@ -51,7 +51,7 @@ fn merge_with_empty_preserves_full_context_empty_path() -> Result<(), Refusal> {
 #[test]
 fn wildcard_merge_collapses_to_empty() -> Result<(), Refusal> {
     let mut arena = ContextArena::new();
-    let singleton = arena.singleton(EMPTY_CONTEXT, ReturnState(42))?;
+    let singleton = arena.singleton(EMPTY_CONTEXT, ReturnState(42))?.context;
 
     assert_eq!(arena.merge(singleton, EMPTY_CONTEXT, true)?.context, EMPTY_CONTEXT);
     Ok(())
@@ -60,10 +60,10 @@ fn wildcard_merge_collapses_to_empty() -> Result<(), Refusal> {
 #[test]
 fn merge_is_order_independent() -> Result<(), Refusal> {
     let mut arena = ContextArena::new();
-    let left_parent = arena.singleton(EMPTY_CONTEXT, ReturnState(100))?;
-    let right_parent = arena.singleton(EMPTY_CONTEXT, ReturnState(200))?;
-    let left = arena.singleton(left_parent, ReturnState(7))?;
-    let right = arena.singleton(right_parent, ReturnState(7))?;
+    let left_parent = arena.singleton(EMPTY_CONTEXT, ReturnState(100))?.context;
+    let right_parent = arena.singleton(EMPTY_CONTEXT, ReturnState(200))?.context;
+    let left = arena.singleton(left_parent, ReturnState(7))?.context;
+    let right = arena.singleton(right_parent, ReturnState(7))?.context;
 
     let left_right = arena.merge(left, right, false)?.context;
     let right_left = arena.merge(right, left, false)?.context;
@@ -86,9 +86,9 @@ fn singleton_contexts(arena: &ContextArena) -> usize {
 /// The array of these entries, parent and state each.
 fn array(arena: &mut ContextArena, entries: &[(ContextId, u64)]) -> Result<ContextId, Refusal> {
     let (&(parent, state), others) = entries.split_first().expect("an entry");
-    let first = arena.singleton(parent, ReturnState(state))?;
+    let first = arena.singleton(parent, ReturnState(state))?.context;
     others.iter().try_fold(first, |merged, &(parent, state)| {
-        let single = arena.singleton(parent, ReturnState(state))?;
+        let single = arena.singleton(parent, ReturnState(state))?.context;
         arena.merge(merged, single, false).map(|merged| merged.context)
     })
 }

@@ -5,8 +5,8 @@ use pursecricket::{Alternative, AtnConfig, AtnConfigSet, ContextArena, EMPTY_CON
 #[test]
 fn config_set_merges_context_ids() -> Result<(), Refusal> {
     let mut arena = ContextArena::new();
-    let left = arena.singleton(EMPTY_CONTEXT, ReturnState(1))?;
-    let right = arena.singleton(EMPTY_CONTEXT, ReturnState(2))?;
+    let left = arena.singleton(EMPTY_CONTEXT, ReturnState(1))?.context;
+    let right = arena.singleton(EMPTY_CONTEXT, ReturnState(2))?.context;
     let mut set = AtnConfigSet::new_full_context(true);
 
     assert!(set.add(AtnConfig::new(1, Alternative(1), left), &mut arena)?.inserted);

@@ -12,7 +12,7 @@ include!("graph_cases.rs");
 fn build_chain(arena: &mut ContextArena, return_states: &[usize]) -> Result<ContextId, Refusal> {
     let mut context = EMPTY_CONTEXT;
     for &return_state in return_states {
-        context = arena.singleton(context, ReturnState(return_state as u64))?;
+        context = arena.singleton(context, ReturnState(return_state as u64))?.context;
     }
     Ok(context)
 }
@@ -42,9 +42,9 @@ fn run_case(case: &GraphCase) -> Result<String, Refusal> {
             arena.merge(left, right, case.root_is_wildcard)?.context
         }
         Scenario::NestedFullContext => {
-            let child = arena.singleton(EMPTY_CONTEXT, ReturnState(8))?;
+            let child = arena.singleton(EMPTY_CONTEXT, ReturnState(8))?.context;
             let right = arena.merge(EMPTY_CONTEXT, child, false)?.context;
-            let left = arena.singleton(right, ReturnState(8))?;
+            let left = arena.singleton(right, ReturnState(8))?.context;
             arena.merge(left, right, false)?.context
         }
     };

@@ -8,8 +8,8 @@ use pursecricket::{
 #[test]
 fn exact_context_conflict_proves_containment_without_shared_context_ids() -> Result<(), Refusal> {
     let mut arena = ContextArena::new();
-    let first = arena.singleton(EMPTY_CONTEXT, ReturnState(10))?;
-    let second = arena.singleton(EMPTY_CONTEXT, ReturnState(20))?;
+    let first = arena.singleton(EMPTY_CONTEXT, ReturnState(10))?.context;
+    let second = arena.singleton(EMPTY_CONTEXT, ReturnState(20))?.context;
     let containing = arena.merge(first, second, true)?.context;
     let mut configs = AtnConfigSet::new();
     configs.add(AtnConfig::new(7, Alternative(1), containing), &mut arena)?;
@@ -23,8 +23,8 @@ fn exact_context_conflict_proves_containment_without_shared_context_ids() -> Res
 #[test]
 fn exact_context_conflict_joins_semantically_distinct_configs() -> Result<(), Refusal> {
     let mut arena = ContextArena::new();
-    let first = arena.singleton(EMPTY_CONTEXT, ReturnState(10))?;
-    let second = arena.singleton(EMPTY_CONTEXT, ReturnState(20))?;
+    let first = arena.singleton(EMPTY_CONTEXT, ReturnState(10))?.context;
+    let second = arena.singleton(EMPTY_CONTEXT, ReturnState(20))?.context;
     let joined = arena.merge(first, second, true)?.context;
     let mut configs = AtnConfigSet::new();
     for (context, predicate) in [(first, SemanticContextId(1)), (second, SemanticContextId(2))] {

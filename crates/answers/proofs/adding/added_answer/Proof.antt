@@ -23,7 +23,7 @@ returns-3 c =
     let refusal-counted = c .refusal-counted in
     let answer2 = c .before .before .answer2 in
     rw (answer2 .given .1)
-    (refused-set-counted (answer2 .given .0 .0) (refusal-counted .result) (refusal-counted .ensures .0) (refusal-counted .ensures .1) (refusal-counted .ensures .2))
+    (refused-set-counted (answer2 .given .0 .0) (refusal-counted .result) (refusal-counted .ensures .0) (refusal-counted .ensures .1) (refusal-counted .ensures .2) (refusal-counted .ensures .3))
 
 pub added-answer-spec : {M : Type 1} → statement M
 added-answer-spec =

@@ -1,7 +1,7 @@
 -- The chain says whether the key is there: the config is joined, or goes last.
 use borrow.Author.Needs.{needs}
 use mathlib.Core.Path.{_≡_, sym, ap, _∙_}
-use Prim.Native.Nat.{ℕ}
+use Rattle.contexts.specs.declared.merges.Work.{Work}
 use Rattle.sets.specs.Calls.{setLeftAfter}
 use Rattle.setcheck.specs.Keys.{placeOf}
 use Rattle.setcheck.specs.declared.inner.keys.KeyPlace.the-variants.{At}
@@ -31,7 +31,7 @@ returns c =
     let find-key = c .before .before .before .before .before .before .before .before .before .before .find-key in
     let insert = c .before .before .insert in
     let clear = c .before .before .before .before .before .before .clear in
-    ap (λ (n : ℕ). setLeftAfter n (addedReply (insert .result)) (args .store .now) (insert .last .0) (clear .last .0)) (insert .ensures .1)
+    ap (λ (k : Work). setLeftAfter (k .merges) (k .made) (addedReply (insert .result)) (args .store .now) (insert .last .0) (clear .last .0)) (insert .ensures .1)
     ∙ add-last pre (config-count .result) (config-count .ensures) (sym (ap placeOf (enum-told .given .1)) ∙ find-key .ensures)
     (addedReply (insert .result)) (insert .last .0) (insert .ensures .0) (clear .last .0) (clear .ensures)
 

@@ -80,8 +80,9 @@ returns c =
     let full = not (flag 1 (args .set .now)) in
     let s = storeOf (args .store .now) in
     let here = configAt (args .set .now) (args .place) .context in
+    let work = merged .given .0 .1 .0 in
     join-done pre (counting full s here (args .config .context .0)) (mergeS full s here (args .config .context .0))
-    (merge-known .last .0) (merge-known .last .1 .0) (merged .given .0 .0 .0) (merged .given .0 .1 .0) m (configOf (joined-config .result)) y
+    (merge-known .last .0) (merge-known .last .1 .0) (merged .given .0 .0 .0) (work .merges) (work .made) m (configOf (joined-config .result)) y
     (put-config .last .0) (put-config .ensures) (flag-word .result) (flag-word .ensures) (joined-flags .result) (joined-flags .ensures)
 
 returns-2 : tie.Need-returns-2

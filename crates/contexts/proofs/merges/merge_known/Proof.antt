@@ -59,9 +59,10 @@ returns c =
     let p5 = p4 .before .before .before .before .before .before .before .before in
     let pre = p5 .pre in
     let args = p5 .args in
+    let is-merged = rw (outcome .given .1) at (merge .ensures) in
     merge-made (args .root-is-wildcard) (args .store .now) (args .scratch .now) (args .left .0) (args .right .0) (pre .0) (pre .1) (pre .2)
     (clear-cache .last .0) (clear-cache .ensures) (outcome .given .0 .0 .0) (merge .last .0) (merge .last .1 .0)
-    (rw (outcome .given .1) at (merge .ensures)) (merges-counted .result) (merges-counted .ensures) (clear .last .0) (clear .ensures)
+    (is-merged .0) (merges-counted .result) (outcome .given .0 .1 .0) (merges-counted .ensures) (is-merged .1) (clear .last .0) (clear .ensures)
 
 returns-2 : tie.Need-returns-2
 returns-2 c =

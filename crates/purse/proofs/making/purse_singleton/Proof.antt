@@ -1,14 +1,13 @@
 -- The struct stands for the answer.
 use borrow.Author.Needs.{needs}
-use Rattle.answers.specs.Answers.{answerOf}
-use Rattle.purse.specs.Doors.Laws.{door}
+use Rattle.purse.specs.Doors.Laws.{number-door}
 use Rattle.purse.proofs.making.purse_singleton.Statement.{statement}
 use Rattle.purse.proofs.making.purse_singleton.Tie as tie
 
 returns : tie.Need-returns
 returns c =
     let singleton = c .before .before .before .before .before .singleton in
-    door answerOf (c .number-answer .result) _ _ _ _ (c .number-answer .ensures) (singleton .ensures)
+    number-door (c .number-answer .result) _ _ _ (singleton .result) (c .number-answer .ensures) (singleton .ensures)
 
 pub purse-singleton-spec : {M : Type 1} → statement M
 purse-singleton-spec =

@@ -6,6 +6,7 @@ use borrow.Fn.PlainCycle.{Measures, is, falls, and}
 use Rattle.arena.specs.Store.{nodeAt}
 use Rattle.arena.specs.Kinds.{size}
 use Rattle.layout.specs.Decode.{storeOf}
+use Rattle.interning.specs.Interned.{More}
 use Rattle.merging.specs.Turns.{Go}
 use Rattle.merging.proofs.cycle.merge.Reads as merge
 use Rattle.merging.proofs.cycle.merge.Kinds as merge-kinds
@@ -73,15 +74,16 @@ merge-entries-claims t = (
   merge.Post,
 )
 
--- the loop: left-index and right-index entries are taken, and no more than there are
+-- the loop: left-index and right-index entries are taken, no more than there are, and `made` contexts are made
 abbrev pub Inv-loop : merge-entries-lts.InvT-loop
-Inv-loop store₀ scratch₀ left right wildcard top left-len right-len left-index₀ right-index₀ n₀ store scratch left-index right-index n =
+Inv-loop store₀ scratch₀ left right wildcard top left-len right-len left-index₀ right-index₀ n₀ made₀ store scratch left-index right-index n made =
     Go wildcard store₀ scratch₀ (left .0) (right .0) top store scratch left-index right-index n
     × (left-index ≤ left-len) × (right-index ≤ right-len)
     × (left-len ≡ size (nodeAt (storeOf store₀) (left .0))) × (right-len ≡ size (nodeAt (storeOf store₀) (right .0)))
+    × More store₀ made store
 
 abbrev pub μ-loop : merge-entries-lts.MeasureT-loop
-μ-loop store₀ scratch₀ left right wildcard top left-len right-len left-index₀ right-index₀ n₀ store scratch left-index right-index n =
+μ-loop store₀ scratch₀ left right wildcard top left-len right-len left-index₀ right-index₀ n₀ made₀ store scratch left-index right-index n made =
     (left-len - left-index) + (right-len - right-index)
 
 -- a need of each member, at every measure

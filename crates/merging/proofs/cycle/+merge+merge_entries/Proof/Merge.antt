@@ -7,6 +7,7 @@ use lib.ListN.{length}
 use borrow.Author.Needs.{needs}
 use borrow.Author.Tests.{not-true, not-false}
 use Rattle.interning.specs.Live.{live-length}
+use Rattle.interning.specs.Interned.{More}
 use Rattle.interning.specs.declared.single.Numbered.the-variants.{Number, Refused}
 use Rattle.work.specs.Counted.{counted}
 use Rattle.cache.specs.Cache.{Counts}
@@ -22,7 +23,7 @@ merge-returns t c =
     let p1 = c .before .before .before .before .before in
     let pre = p1 .pre in
     let args = p1 .args in
-    equal-sides (pre .1) (args .root-is-wildcard) (if1 .taken)
+    (equal-sides (pre .1) (args .root-is-wildcard) (if1 .taken), omega arith)
 
 pub merge-cached-requires : Merge merge-lts.Need-cached-requires
 merge-cached-requires t c κs =
@@ -38,7 +39,7 @@ merge-returns-2 t c =
     let p2 = p1 .before .before .before .before .before .before .before in
     let pre = p2 .pre in
     let args = p2 .args in
-    hit (pre .1) (if1 .left) (args .root-is-wildcard) (cached .result) (cached .ensures) (known .given .0 .0) (known .given .1)
+    (hit (pre .1) (if1 .left) (args .root-is-wildcard) (cached .result) (cached .ensures) (known .given .0 .0) (known .given .1), omega arith)
 
 pub merge-count-merge-requires : Merge merge-lts.Need-count-merge-requires
 merge-count-merge-requires t c κs =
@@ -127,9 +128,11 @@ merge-returns-4 t c =
     let if1 = p3 .before .before .if1 in
     let p4 = p3 .before .before .before .before .before .before .before in
     let pre = p4 .pre in
-    let args = p4 .args in
-    swallowed (pre .1) (if1 .left) (args .root-is-wildcard) (cached .result) (cached .ensures) (enum-told .given .1)
-    (count-merge .last .0) (is-counted t at-if2) (rw (if3 .taken) at (swallows .ensures)) (remember .last .0) (remember .ensures)
+    let args = p4 .args in (
+      swallowed (pre .1) (if1 .left) (args .root-is-wildcard) (cached .result) (cached .ensures) (enum-told .given .1)
+          (count-merge .last .0) (is-counted t at-if2) (rw (if3 .taken) at (swallows .ensures)) (remember .last .0) (remember .ensures),
+      omega arith,
+    )
 
 pub merge-merge-entries-requires : Merge merge-lts.Need-merge-entries-requires
 merge-merge-entries-requires t c κs =
@@ -226,7 +229,7 @@ is-merged : Merge (λ p q v. (c : merge-lts.After-merged p q v) →
     let args = p2 .before .before .before .before .before .before .before .before .before .before .before .args in
     Reached (count-merge .last .0) (args .top)
     (walked (args .root-is-wildcard) (stateOf (args .store .now) (count-merge .last .0)) (args .left .0) (args .right .0))
-    (merged .given .0 .0 .0) (merge-entries .last .0) (merge-entries .last .1 .0))
+    (merged .given .0 .0 .0) (merge-entries .last .0) (merge-entries .last .1 .0) × More (args .store .now) (merged .given .0 .1 .0) (merge-entries .last .0))
 is-merged t c =
     let merged = c .merged in
     let merge-entries = c .before .before .before .before .before .before .merge-entries in
@@ -253,9 +256,9 @@ merge-remember-requires-2 t c κs =
     let args = p5 .args in
     let few = merged-few (pre .1) (if1 .left) (args .root-is-wildcard) (cached .result) (cached .ensures) (enum-told .given .1)
     (count-merge .last .0) (is-counted t at-if2) (rw (if3 .left) at (swallows .ensures)) (merged .given .0 .0 .0)
-    (merge-entries .last .0) (merge-entries .last .1 .0) (is-merged t at-merged) in
+    (merge-entries .last .0) (merge-entries .last .1 .0) (is-merged t at-merged .0) in
     let sides = asked (pre .1) in (
-      record { sized = is-merged t at-merged .live .index .sized; sound = is-merged t at-merged .cache; left = sides .left; right = sides .right },
+      record { sized = is-merged t at-merged .0 .live .index .sized; sound = is-merged t at-merged .0 .cache; left = sides .left; right = sides .right },
       few,
     )
 
@@ -265,7 +268,7 @@ merge-same-length-6 t c =
     let p1 = at-merged .before .before .before .before .before .before .before .before .before .before .before .before in
     let p2 = p1 .before .before .before .before .before .before .before .before .before .before .before .before in
     let pre = p2 .before .pre in
-    omega (arith, live-length (pre .1 .live), live-length (is-merged t at-merged .live))
+    omega (arith, live-length (pre .1 .live), live-length (is-merged t at-merged .0 .live))
 
 pub merge-same-length-7 : Merge merge-lts.Need-same-length-7
 merge-same-length-7 t c =
@@ -274,7 +277,7 @@ merge-same-length-7 t c =
     let p1 = at-merged .before .before .before .before .before .before .before .before .before .before .before .before in
     let p2 = p1 .before .before .before .before .before .before .before .before .before .before .before .before in
     let pre = p2 .before .pre in
-    remember2 .ensures .sized ∙ is-merged t at-merged .live .index .sized ∙ sym (pre .1 .live .index .sized)
+    remember2 .ensures .sized ∙ is-merged t at-merged .0 .live .index .sized ∙ sym (pre .1 .live .index .sized)
 
 pub merge-returns-6 : Merge merge-lts.Need-returns-6
 merge-returns-6 t c =
@@ -295,7 +298,9 @@ merge-returns-6 t c =
     let if1 = p4 .before .before .if1 in
     let p5 = p4 .before .before .before .before .before .before .before in
     let pre = p5 .pre in
-    let args = p5 .args in
-    remembered (pre .1) (if1 .left) (args .root-is-wildcard) (cached .result) (cached .ensures) (enum-told .given .1)
-    (count-merge .last .0) (is-counted t at-if2) (rw (if3 .left) at (swallows .ensures)) (merged .given .0 .0 .0)
-    (merge-entries .last .0) (merge-entries .last .1 .0) (is-merged t at-merged) (remember2 .last .0) (remember2 .ensures)
+    let args = p5 .args in (
+      remembered (pre .1) (if1 .left) (args .root-is-wildcard) (cached .result) (cached .ensures) (enum-told .given .1)
+          (count-merge .last .0) (is-counted t at-if2) (rw (if3 .left) at (swallows .ensures)) (merged .given .0 .0 .0)
+          (merge-entries .last .0) (merge-entries .last .1 .0) (is-merged t at-merged .0) (remember2 .last .0) (remember2 .ensures),
+      is-merged t at-merged .1,
+    )

@@ -7,14 +7,14 @@ use Rattle.arena.specs.Store.{nodeAt}
 use Rattle.arena.specs.Kinds.{size}
 use Rattle.layout.specs.Decode.{storeOf}
 use Rattle.interning.specs.Live.{live-length}
-use Rattle.interning.specs.Interned.{answered}
+use Rattle.interning.specs.Interned.{More, answered}
 use Rattle.interning.specs.declared.single.Numbered.the-variants.{Number, Refused}
 use Rattle.work.specs.Counted.{counted, refused}
 use Rattle.words.specs.Refusals.{number}
 use Rattle.entries.specs.Rest.{live-known}
 use Rattle.merging.specs.Standing.{Reached, Stuck, Ended, stateOf, walked, ended-lengths}
 use Rattle.merging.specs.Walking.{exchanged}
-use Rattle.merging.specs.Turns.{Heads, heads-exchanged, sides-exchanged, go-start, left-known, left-is, rest-left, left-ended, fitting}
+use Rattle.merging.specs.Turns.{Heads, heads-exchanged, sides-exchanged, go-start, left-known, left-is, rest-left, left-ended, few-made, fitting}
 use Rattle.merging.specs.Turns.{slot, take-lower, parents-fall, inner, take-equal, inner-refused, walked-even}
 use Rattle.merging.proofs.cycle.+merge+merge_entries.Lts-merge_entries as merge-entries-lts
 use Rattle.merging.proofs.cycle.+merge+merge_entries.Proof.Measures.{MergeEntries, Inv-loop, μ-loop}
@@ -41,7 +41,7 @@ entries-loop-holds t c =
     let p1 = c .before .before .before .before .before .before in
     let pre = p1 .pre in
     let args = p1 .args in
-    (go-start (pre .1) (args .root-is-wildcard), omega arith, omega arith, entry-count .ensures, entry-count2 .ensures)
+    (go-start (pre .1) (args .root-is-wildcard), omega arith, omega arith, entry-count .ensures, entry-count2 .ensures, omega arith)
 
 pub entries-intern-with-rest-requires : MergeEntries merge-entries-lts.Need-intern-with-rest-requires
 entries-intern-with-rest-requires t c κs =
@@ -51,6 +51,12 @@ entries-intern-with-rest-requires t c κs =
     let pre = p1 .before .before .before .before .before .before .before .pre in
     rest-left (pre .1) (loop .inv .0) (omega (arith, loop .inv .1)) (omega (arith, loop .inv .2, if1 .taken)) (omega (arith, loop .inv .2))
 
+pub entries-answer-requires : MergeEntries merge-entries-lts.Need-answer-requires
+entries-answer-requires t c κs =
+    let at-loop = c .before .before .before .before .before .before .before .before .before in
+    let loop = at-loop .loop in
+    few-made (at-loop .before .before .before .before .before .before .before .pre .1) (loop .inv .0) (loop .made) (loop .inv .5)
+
 pub entries-same-length : MergeEntries merge-entries-lts.Need-same-length
 entries-same-length t c =
     let p1 = c .before .before .before .before .before in
@@ -59,9 +65,9 @@ entries-same-length t c =
     let if1 = p2 .if1 in
     let loop = p2 .before .before .loop in
     let pre = p2 .before .before .before .before .before .before .before .before .before .pre in
-    let all = left-ended (pre .1) (loop .inv .0) (omega (arith, loop .inv .1)) (omega (arith, loop .inv .2, if1 .taken)) (omega (arith, loop .inv .2))
+    let all = left-ended (pre .1) (loop .inv .0) (omega (arith, loop .inv .1)) (omega (arith, loop .inv .2, if1 .taken)) (omega (arith, loop .inv .2)) (loop .made) (loop .inv .5)
     (intern-with-rest .result) (intern-with-rest .last .0) (intern-with-rest .last .1 .0) (intern-with-rest .ensures) in
-    omega (arith, live-length (pre .1 .sides .live), ended-lengths (pre .1 .sides) _ (answered (intern-with-rest .result)) _ _ all .0)
+    omega (arith, live-length (pre .1 .sides .live), ended-lengths (pre .1 .sides) _ (answered (intern-with-rest .result) (loop .made)) _ _ all .0)
 
 pub entries-same-length-2 : MergeEntries merge-entries-lts.Need-same-length-2
 entries-same-length-2 t c =
@@ -71,9 +77,9 @@ entries-same-length-2 t c =
     let if1 = p2 .if1 in
     let loop = p2 .before .before .loop in
     let pre = p2 .before .before .before .before .before .before .before .before .before .pre in
-    let all = left-ended (pre .1) (loop .inv .0) (omega (arith, loop .inv .1)) (omega (arith, loop .inv .2, if1 .taken)) (omega (arith, loop .inv .2))
+    let all = left-ended (pre .1) (loop .inv .0) (omega (arith, loop .inv .1)) (omega (arith, loop .inv .2, if1 .taken)) (omega (arith, loop .inv .2)) (loop .made) (loop .inv .5)
     (intern-with-rest .result) (intern-with-rest .last .0) (intern-with-rest .last .1 .0) (intern-with-rest .ensures) in
-    omega (arith, pre .1 .sides .live .index .sized, ended-lengths (pre .1 .sides) _ (answered (intern-with-rest .result)) _ _ all .1)
+    omega (arith, pre .1 .sides .live .index .sized, ended-lengths (pre .1 .sides) _ (answered (intern-with-rest .result) (loop .made)) _ _ all .1)
 
 pub entries-returns : MergeEntries merge-entries-lts.Need-returns
 entries-returns t c =
@@ -85,7 +91,7 @@ entries-returns t c =
     let loop = p2 .before .before .loop in
     let pre = p2 .before .before .before .before .before .before .before .before .before .pre in
     rw (answer .ensures)
-    (left-ended (pre .1) (loop .inv .0) (omega (arith, loop .inv .1)) (omega (arith, loop .inv .2, if1 .taken)) (omega (arith, loop .inv .2))
+    (left-ended (pre .1) (loop .inv .0) (omega (arith, loop .inv .1)) (omega (arith, loop .inv .2, if1 .taken)) (omega (arith, loop .inv .2)) (loop .made) (loop .inv .5)
     (intern-with-rest .result) (intern-with-rest .last .0) (intern-with-rest .last .1 .0) (intern-with-rest .ensures))
 
 pub entries-entry-requires : MergeEntries merge-entries-lts.Need-entry-requires
@@ -180,6 +186,7 @@ entries-loop-again t c =
       loop .inv .2,
       loop .inv .3,
       loop .inv .4,
+      loop .inv .5,
     )
 
 pub entries-add-put-entry-2 : MergeEntries merge-entries-lts.Need-add-put-entry-2
@@ -237,6 +244,7 @@ entries-loop-again-2 t c =
       omega (arith, if1 .left),
       loop .inv .3,
       loop .inv .4,
+      loop .inv .5,
     )
 
 pub entries-add-merge : MergeEntries merge-entries-lts.Need-add-merge
@@ -323,7 +331,7 @@ is-merged : MergeEntries (λ p q v i μ. (c : merge-entries-lts.After-merged p q
     let args = p3 .before .before .before .before .before .before .before .args in
     Reached (loop .scratch) (args .top + loop .n)
     (counted (args .root-is-wildcard) (stateOf (loop .store) (loop .scratch)) (entry .result .parent .0) (entry2 .result .parent .0))
-    (merged .given .0 .0 .0) (merge .last .0) (merge .last .1 .0))
+    (merged .given .0 .0 .0) (merge .last .0) (merge .last .1 .0) × More (loop .store) (merged .given .0 .1 .0) (merge .last .0))
 is-merged t c =
     let merged = c .merged in
     let merge = c .before .before .before .before .before .before .merge in
@@ -346,7 +354,7 @@ entries-put-entry-requires-3 t c κs =
     let p2 = at-entry2 .before .before .before .before .before .before in
     let loop = p2 .loop in
     let pre = p2 .before .before .before .before .before .before .before .pre in
-    (is-merged t at-merged .live .index .sized, slot (pre .1) (loop .inv .0) (heads t at-entry2))
+    (is-merged t at-merged .0 .live .index .sized, slot (pre .1) (loop .inv .0) (heads t at-entry2))
 
 pub entries-add-left-index-2 : MergeEntries merge-entries-lts.Need-add-left-index-2
 entries-add-left-index-2 t c =
@@ -375,6 +383,14 @@ entries-add-n-3 t c =
     let pre = p2 .before .before .before .before .before .before .before .pre in
     omega (arith, slot (pre .1) (loop .inv .0) (heads t at-entry2))
 
+pub entries-add-made : MergeEntries merge-entries-lts.Need-add-made
+entries-add-made t c =
+    let at-merged = c .before .before .before .before .before in
+    let p1 = at-merged .before .before .before .before .before .before .before .before .before .before .before .before in
+    let loop = p1 .before .before .before .before .before .before .before .before .before .loop in
+    let more = is-merged t at-merged in
+    omega (arith, loop .inv .5, more .1, more .0 .live .good .fits .0)
+
 pub entries-loop-less-3 : MergeEntries merge-entries-lts.Need-loop-less-3
 entries-loop-less-3 t c =
     let p1 = c .before .before .before .before .before .before .before .before .before .before .before .before in
@@ -397,11 +413,12 @@ entries-loop-again-3 t c =
     let loop = p2 .before .before .loop in
     let pre = p2 .before .before .before .before .before .before .before .before .before .pre in (
       take-equal (pre .1) (loop .inv .0) (heads t at-entry2) (states-equal t at-if3) (merged .given .0 .0 .0) (merge .last .0) (merge .last .1 .0)
-          (is-merged t at-merged) (put-entry3 .last .0) (put-entry3 .ensures),
+          (is-merged t at-merged .0) (put-entry3 .last .0) (put-entry3 .ensures),
       omega (arith, loop-test .taken),
       omega (arith, if1 .left),
       loop .inv .3,
       loop .inv .4,
+      omega (arith, loop .inv .5, is-merged t at-merged .1),
     )
 
 pub entries-intern-with-rest-requires-2 : MergeEntries merge-entries-lts.Need-intern-with-rest-requires-2
@@ -414,10 +431,12 @@ entries-intern-with-rest-requires-2 t c κs =
 
 all-right : MergeEntries (λ p q v i μ. (c : merge-entries-lts.After-intern-with-rest2 p q v i μ) →
     let intern-with-rest2 = c .intern-with-rest2 in
-    let args = c .before .before .before .before .before .before .before .before .before .before .before .args in
+    let p1 = c .before .before .before .before in
+    let loop = p1 .loop in
+    let args = p1 .before .before .before .before .before .before .before .args in
     Ended (args .store .now) (args .scratch .now) (args .top)
     (walked (args .root-is-wildcard) (stateOf (args .store .now) (args .scratch .now)) (args .left .0) (args .right .0))
-    (answered (intern-with-rest2 .result)) (intern-with-rest2 .last .0) (intern-with-rest2 .last .1 .0))
+    (answered (intern-with-rest2 .result) (loop .made)) (intern-with-rest2 .last .0) (intern-with-rest2 .last .1 .0))
 all-right t c =
     let intern-with-rest2 = c .intern-with-rest2 in
     let p1 = c .before .before .before in
@@ -428,21 +447,31 @@ all-right t c =
     let args = p2 .args in
     rw (walked-even (args .root-is-wildcard) (stateOf (args .store .now) (args .scratch .now)) (args .left .0) (args .right .0))
     (left-ended (sides-exchanged (pre .1)) (exchanged (loop .inv .0)) (omega (arith, loop .inv .2)) (omega (arith, loop .inv .1, loop-test .left)) (omega (arith, loop .inv .1))
-    (intern-with-rest2 .result) (intern-with-rest2 .last .0) (intern-with-rest2 .last .1 .0) (intern-with-rest2 .ensures))
+    (loop .made) (loop .inv .5) (intern-with-rest2 .result) (intern-with-rest2 .last .0) (intern-with-rest2 .last .1 .0) (intern-with-rest2 .ensures))
+
+pub entries-answer-requires-2 : MergeEntries merge-entries-lts.Need-answer-requires-2
+entries-answer-requires-2 t c κs =
+    let at-loop = c .before .before .before .before .before .before .before .before in
+    let loop = at-loop .loop in
+    few-made (at-loop .before .before .before .before .before .before .before .pre .1) (loop .inv .0) (loop .made) (loop .inv .5)
 
 pub entries-same-length-5 : MergeEntries merge-entries-lts.Need-same-length-5
 entries-same-length-5 t c =
     let at-intern-with-rest2 = c .before .before .before .before .before in
     let intern-with-rest2 = at-intern-with-rest2 .intern-with-rest2 in
-    let pre = at-intern-with-rest2 .before .before .before .before .before .before .before .before .before .before .before .pre in
-    omega (arith, live-length (pre .1 .sides .live), ended-lengths (pre .1 .sides) _ (answered (intern-with-rest2 .result)) _ _ (all-right t at-intern-with-rest2) .0)
+    let p1 = at-intern-with-rest2 .before .before .before .before in
+    let loop = p1 .loop in
+    let pre = p1 .before .before .before .before .before .before .before .pre in
+    omega (arith, live-length (pre .1 .sides .live), ended-lengths (pre .1 .sides) _ (answered (intern-with-rest2 .result) (loop .made)) _ _ (all-right t at-intern-with-rest2) .0)
 
 pub entries-same-length-6 : MergeEntries merge-entries-lts.Need-same-length-6
 entries-same-length-6 t c =
     let at-intern-with-rest2 = c .before .before .before .before .before in
     let intern-with-rest2 = at-intern-with-rest2 .intern-with-rest2 in
-    let pre = at-intern-with-rest2 .before .before .before .before .before .before .before .before .before .before .before .pre in
-    omega (arith, pre .1 .sides .live .index .sized, ended-lengths (pre .1 .sides) _ (answered (intern-with-rest2 .result)) _ _ (all-right t at-intern-with-rest2) .1)
+    let p1 = at-intern-with-rest2 .before .before .before .before in
+    let loop = p1 .loop in
+    let pre = p1 .before .before .before .before .before .before .before .pre in
+    omega (arith, pre .1 .sides .live .index .sized, ended-lengths (pre .1 .sides) _ (answered (intern-with-rest2 .result) (loop .made)) _ _ (all-right t at-intern-with-rest2) .1)
 
 pub entries-returns-3 : MergeEntries merge-entries-lts.Need-returns-3
 entries-returns-3 t c =
