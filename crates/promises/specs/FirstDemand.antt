@@ -6,9 +6,9 @@ use mathlib.Core.Logic.{_↔_}
 use mathlib.Core.Bool.{Bool, true, not, _&&_}
 use mathlib.Core.List.{List, [], map, Sublistᴰ}
 use Prim.Native.Nat.{ℕ, _<_, _≤_}
-use lib.Dec.{eqb, leb}
+use lib.Dec.{eqb, ltb, leb}
 use lib.ListN.{length}
-use borrow.Author.Tests.{eq-eqb, eqb-true, ltb-false, le-ltb, leb-true, le-leb, not-true}
+use borrow.Author.Tests.{eq-eqb, eqb-true, ltb-true, ltb-false, lt-ltb, le-ltb, leb-true, le-leb, not-true}
 use Rattle.words.specs.Names.{emptyMark}
 use Rattle.arena.specs.Store.{Store, at}
 use Rattle.arena.specs.Room.{pool}
@@ -32,7 +32,7 @@ use Rattle.contexts.specs.Promises as Merges
 use Rattle.queries.specs.Queries.{Question, queryCall}
 use Rattle.queries.specs.Refused.{query-refused-exactly, query-refused-leaves, ask-in-order}
 use Rattle.sets.specs.Lists.{any}
-use Rattle.sets.specs.Layout.{mostConfigs, setWordsLength, configAt, configCount}
+use Rattle.sets.specs.Layout.{mostConfigs, setWordsLength, configAt, configCount, flag}
 use Rattle.sets.specs.Sets.{key, sameKey}
 use Rattle.sets.specs.Words.{setOf, SoundSet}
 use Rattle.sets.specs.Config.{Config}
@@ -46,7 +46,7 @@ use Rattle.sets.specs.Refusals.{fresh-refused-exactly as fresh-set-exactly, fre
 use Rattle.outputs.specs.Outputs.{subsetsLength, altsLength}
 use Rattle.verdicts.specs.Calls as Verdicts
 use Rattle.verdicts.specs.Calls.{readRefusal, readChecks, conflictingAltSubsetsCall, conflictingAltsCall, uniqueAltCall, singleViableAltCall}
-use Rattle.verdicts.specs.Calls.{allSubsetsConflictCall, allSubsetsEqualCall, tooManyStops, verdictCall}
+use Rattle.verdicts.specs.Calls.{allSubsetsConflictCall, allSubsetsEqualCall, mostStops, tooManyStops, verdictCall}
 use Rattle.figures.specs.Calls.{figuresCall}
 use Rattle.figures.specs.Same.{figures-refuses}
 use Rattle.reasons.specs.Calls.{whyCall}
@@ -98,13 +98,39 @@ module _ (w v z : List ℕ) (n : ℕ) where
     why-refuses w v z stops p n .0,
   )
 
--- ---- "Given exactly when": each reason in words; that of 1 and of 3 are SecondDemand's `sound-exactly-by-the-clauses` and its like of sets
+-- ---- "Given exactly when": each reason in words, 9 aside, which is a script's; that of 1 and of 3 are SecondDemand's `sound-exactly-by-the-clauses` and its like of sets
 
 -- 2: "a lent slice has a wrong length"
 pub reason-2 : (w z : List ℕ) → (wrongLength w z .holds ≡ true) ↔ ((length w ≡ storeWords) × (length z ≡ scratchWords) → ⊥)
 reason-2 w z =
     let t = two-hold _ _ _ _ (eqb-true (length w) storeWords) (eq-eqb (length w) storeWords) (eqb-true (length z) scratchWords) (eq-eqb (length z) scratchWords) in
     fails _ _ (t .0) (t .1)
+
+-- the same where a set is lent too, and where an output of n words is
+module _ (w v z : List ℕ) where
+  lengths : (lentLengths w v z ≡ true → (length w ≡ storeWords) × ((length v ≡ setWordsLength) × (length z ≡ scratchWords)))
+      × ((length w ≡ storeWords) × ((length v ≡ setWordsLength) × (length z ≡ scratchWords)) → lentLengths w v z ≡ true)
+  unfolding lentLengths
+  lengths =
+      let t = two-hold _ _ _ _ (eqb-true (length v) setWordsLength) (eq-eqb (length v) setWordsLength) (eqb-true (length z) scratchWords) (eq-eqb (length z) scratchWords) in
+      two-hold _ _ _ _ (eqb-true (length w) storeWords) (eq-eqb (length w) storeWords) (t .0) (t .1)
+
+  pub reason-2-with-a-set : (not (lentLengths w v z) ≡ true) ↔ ((length w ≡ storeWords) × ((length v ≡ setWordsLength) × (length z ≡ scratchWords)) → ⊥)
+  reason-2-with-a-set = fails _ _ (lengths .0) (lengths .1)
+
+  pub reason-2-with-an-output : (o : List ℕ) (n : ℕ) → (not (lentLengths w v z && eqb (length o) n) ≡ true)
+      ↔ (((length w ≡ storeWords) × ((length v ≡ setWordsLength) × (length z ≡ scratchWords))) × (length o ≡ n) → ⊥)
+  reason-2-with-an-output o n =
+      let t = two-hold _ _ _ _ (lengths .0) (lengths .1) (eqb-true (length o) n) (eq-eqb (length o) n) in
+      fails _ _ (t .0) (t .1)
+
+-- 7: "`add` to a read-only set": flag 8 of its flags
+pub reason-7 : (v : List ℕ) → (setOf v .closed ≡ true) ↔ (flag 8 v ≡ true)
+reason-7 v = (λ e. e, λ e. e)
+
+-- 10: "more than 64 stop states"
+pub reason-10 : (stops : List ℕ) → (ltb mostStops (length stops) ≡ true) ↔ (mostStops < length stops)
+reason-10 stops = (ltb-true mostStops (length stops), lt-ltb mostStops (length stops))
 
 -- 4: "a context number is not below the count"
 pub reason-4 : (w : List ℕ) (c : ℕ) → (unknownContext w c .holds ≡ true) ↔ (contexts w ≤ c)
