@@ -9,6 +9,7 @@ setAnswerOf (refused n) = record { refusal = n; value = 0 }
 setAnswerOf done = record { refusal = 0; value = 0 }
 setAnswerOf (added k) = record { refusal = 0; value = k }
 
+-- of what a call on a set leaves: with what was counted
 abbrev pub setCountedOf : SetLeft → CountedAnswer
 setCountedOf x = record { refusal = setAnswerOf (x .reply) .refusal; value = setAnswerOf (x .reply) .value; merges = x .merges; made = x .made }
 

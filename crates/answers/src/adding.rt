@@ -29,11 +29,11 @@ pub fn added_answer(answer: Added) -> CountedAnswer
             merges: 0,
             made: 0,
         },
-        Added::Merged(work) => CountedAnswer {
+        Added::Merged(tally) => CountedAnswer {
             refusal: 0,
             value: 0,
-            merges: work.merges,
-            made: work.made,
+            merges: tally.merges,
+            made: tally.made,
         },
         Added::Refused(refusal) => refusal_counted(refusal),
     }

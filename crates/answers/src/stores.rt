@@ -35,11 +35,11 @@ pub fn merged_answer(answer: Merged) -> CountedAnswer
     ensures { λ r. ⌜ r ≡ countedOf (merged answer [] []) ⌝ }
 {
     match answer {
-        Merged::Number(context, work) => CountedAnswer {
+        Merged::Number(context, tally) => CountedAnswer {
             refusal: 0,
             value: context.0,
-            merges: work.merges,
-            made: work.made,
+            merges: tally.merges,
+            made: tally.made,
         },
         Merged::Refused(refusal) => refusal_counted(refusal),
     }

@@ -18,14 +18,14 @@ use Rattle.sets.specs.Layout.{mostConfigs, configAt, configCount, flag}
 use Rattle.sets.specs.Sets.{sameKey, withConfigs, joinedAll, addTo}
 use Rattle.sets.specs.Words.{setWords, setOf}
 use Rattle.store.specs.Checks.{given, unless}
-use Rattle.sets.specs.Calls.{SetReply, refused, added, SetLeft, addsAfter, addWork, refusal}
+use Rattle.sets.specs.Calls.{refused, added, SetLeft, setLeft, addsAfter, addWork, refusal}
 use Rattle.setcheck.specs.Opened.{ReadySet}
 
--- the config goes last
-unfoldable pub insertCall : List ℕ → Config → SetReply × List ℕ
-insertCall v x =
-    unless (given 8 (leb mostConfigs (length (setOf v .configs))) ∷ []) (λ n. (refused n, v))
-    (added 1, setWords (withConfigs (setOf v) (setOf v .configs ++ (x ∷ []))))
+-- the config goes last; w and z are the words beside the set, whatever they hold
+unfoldable pub insertCall : List ℕ → List ℕ → List ℕ → Config → SetLeft
+insertCall w v z x =
+    unless (given 8 (leb mostConfigs (length (setOf v .configs))) ∷ []) (λ n. setLeft (refused n) w v z)
+    (setLeft (added 1) w (setWords (withConfigs (setOf v) (setOf v .configs ++ (x ∷ [])))) z)
 
 -- the config is joined to the one at place i, whose context is merged with its own to P, with the outcome o
 unfoldable pub joinTo : List ℕ → List ℕ → Config → Outcome ℕ → ℕ × Store → SetLeft

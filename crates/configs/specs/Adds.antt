@@ -111,7 +111,7 @@ module _ {w v z : List ℕ} {x : Config} (a : Addable w v z x) where
     nothing : Outcome ℕ
     nothing = done 0 (standing (storeOf w) [] 0)
 
-    insert-with : setLeft (insertCall v x .0) w (insertCall v x .1) zeros ≡ addWith w v false (leb mostConfigs (length (setOf v .configs))) nothing inserted
+    insert-with : insertCall w v zeros x ≡ addWith w v false (leb mostConfigs (length (setOf v .configs))) nothing inserted
     unfolding insertCall addWith inserted nothing refusal unless tooMuch countOf
     insert-with =
         let cs : List Config = setOf v .configs in
@@ -120,14 +120,12 @@ module _ {w v z : List ℕ} {x : Config} (a : Addable w v z x) where
         (λ f. rw f)
         (λ f. rw (f, true-fits (storeOf w) (live .good .fits), no-more, ← live .words))
 
-    pub add-last : nowhere ≡ last (hasKey v x) n → (r : SetReply) (u : List ℕ) → (r, u) ≡ insertCall v x → (y : List ℕ) → y ≡ replicate (length z) 0
-        → setLeft r w u y ≡ addRest w v x
+    pub add-last : nowhere ≡ last (hasKey v x) n → (y : List ℕ) → y ≡ replicate (length z) 0 → insertCall w v y x ≡ addRest w v x
     unfolding inserted nothing
-    add-last f r u q y ey =
+    add-last f y ey =
         let none : any (sameKey x) (setOf v .configs) ≡ false = none-any (sameKey x) v (configCount v) (rw e at (last-none (hasKey v x) n (sym f))) in
         let new = held-new x (setOf v .configs) none in
-        ap (λ (p : SetReply × List ℕ). setLeft (p .0) w (p .1) y) q
-        ∙ ap (setLeft (insertCall v x .0) w (insertCall v x .1)) (ey ∙ cleared z (a .ready .store .index .sized))
+        ap (λ (y : List ℕ). insertCall w v y x) (ey ∙ cleared z (a .ready .store .index .sized))
         ∙ insert-with
         ∙ sym (rest-with w v x ∙ rw (none, add-new (storeOf w) (setOf v) x new, work-new (storeOf w) (setOf v) x new))
 

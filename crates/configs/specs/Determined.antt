@@ -2,16 +2,17 @@
 -- Nothing here has to be believed.
 use mathlib.Core.Path.{_≡_, refl, sym, ap, _∙_}
 use mathlib.Core.Bool.{Bool}
-use mathlib.Core.List.{List}
+use mathlib.Core.List.{List, []}
 use Prim.Native.Nat.{ℕ}
 use Rattle.words.specs.Refusals.{number}
 use Rattle.words.specs.declared.refusals.Refusal.{Refusal}
 use Rattle.store.specs.Calls.Laws.{determined}
 use Rattle.store.specs.Calls.{refused as notMade}
 use Rattle.store.specs.Told.{number-tells}
+use Rattle.contexts.specs.declared.merges.Tally.{Tally}
 use Rattle.sets.specs.Config.{Config}
-use Rattle.sets.specs.Calls.{SetReply, refused, SetLeft, setLeft, freshSetCall, addCall, closeCall}
-use Rattle.configs.specs.Replies.{settled, addedReply, workOf, addedLeft}
+use Rattle.sets.specs.Calls.{SetReply, refused, SetLeft, setLeft, setLeftAfter, freshSetCall, addCall, closeCall}
+use Rattle.configs.specs.Replies.{settled, addedLeft}
 use Rattle.configs.specs.declared.settle.Settled.{Settled}
 use Rattle.configs.specs.declared.settle.Settled.the-variants.{Done, Refused as NotSettled}
 use Rattle.configs.specs.declared.adding.Added.{Added}
@@ -28,7 +29,15 @@ settled-tells Done (NotSettled g) e = cc
 settled-tells (NotSettled f) Done e = cc
 settled-tells (NotSettled f) (NotSettled g) e = ap NotSettled (refusal-tells f g e)
 
-added-tells : (a b : Added) → addedReply a ≡ addedReply b → workOf a ≡ workOf b → a ≡ b
+-- 1 for inserted, 0 for merged, or a refusal
+replied : Added → SetReply
+replied a = addedLeft a [] [] [] .reply
+
+counted : Added → Tally
+counted a = record { merges = addedLeft a [] [] [] .merges; made = addedLeft a [] [] [] .made }
+
+added-tells : (a b : Added) → replied a ≡ replied b → counted a ≡ counted b → a ≡ b
+unfolding replied counted
 added-tells Inserted Inserted e m = refl
 added-tells Inserted (Merged k) e m = cc
 added-tells Inserted (Refused g) e m = cc
@@ -38,6 +47,13 @@ added-tells (Merged n) (Refused g) e m = cc
 added-tells (Refused f) Inserted e m = cc
 added-tells (Refused f) (Merged k) e m = cc
 added-tells (Refused f) (Refused g) e m = ap Refused (refusal-tells f g e)
+
+-- the answer and the words that it was left with
+added-is : (a : Added) (w v z : List ℕ) → addedLeft a w v z ≡ setLeftAfter (counted a .merges) (counted a .made) (replied a) w v z
+unfolding replied counted
+added-is Inserted w v z = refl
+added-is (Merged k) w v z = refl
+added-is (Refused f) w v z = refl
 
 -- ---- the calls
 
@@ -53,8 +69,8 @@ alike x y e = (ap (λ (o : SetLeft). o .store) e, ap (λ (o : SetLeft). o .set) 
 pub add-determined : (w v z : List ℕ) (x : Config) (a b : Added) (s s′ t t′ u u′ : List ℕ)
     → addedLeft a s t u ≡ addCall w v z x → addedLeft b s′ t′ u′ ≡ addCall w v z x → (a ≡ b) × (s ≡ s′) × (t ≡ t′) × (u ≡ u′)
 add-determined w v z x a b s s′ t t′ u u′ p q =
-    let e = determined (addedLeft a s t u) (addedLeft b s′ t′ u′) (addCall w v z x) p q in
-    let o = alike (addedLeft a s t u) (addedLeft b s′ t′ u′) e in
+    let e = sym (added-is a s t u) ∙ determined (addedLeft a s t u) (addedLeft b s′ t′ u′) (addCall w v z x) p q ∙ added-is b s′ t′ u′ in
+    let o = alike _ _ e in
     (added-tells a b (ap (λ (o : SetLeft). o .reply) e) (ap (λ (o : SetLeft). record { merges = o .merges; made = o .made }) e), o .0, o .1, o .2)
 
 pub close-determined : (w v z : List ℕ) (a b : Settled) (s s′ t t′ u u′ : List ℕ)

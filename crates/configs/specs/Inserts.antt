@@ -14,7 +14,7 @@ use Rattle.sets.specs.Held.{HeldSet, held-words}
 use Rattle.sets.specs.Listed.{configs-agree}
 use Rattle.store.specs.Checks.{given, unless}
 use Rattle.store.specs.Checks.Laws.{unless-first, unless-next}
-use Rattle.sets.specs.Calls.{refused, added}
+use Rattle.sets.specs.Calls.{refused, added, setLeft}
 use Rattle.setcheck.specs.Flags.{joinedFlags, joined-more}
 use Rattle.configs.specs.Writes.{putConfig, put-length, put-after, put-here, put-other, head-config, head-other}
 use Rattle.configs.specs.Adding.{insertCall}
@@ -62,13 +62,13 @@ module _ (v : List ℕ) (S : Set) (h : HeldSet v S) (x : Config) (n : ℕ) (e : 
             ∙ put-after v n x j (omega (arith, more-length)) ∙ h .unused j (omega (arith, more-length)) q;
       }
 
-module _ (v : List ℕ) (h : HeldSet v (setOf v)) (x : Config) (n : ℕ) (e : n ≡ configCount v) where
-  pub insert-full : mostConfigs ≤ n → (refused 8, v) ≡ insertCall v x
+module _ (v : List ℕ) (h : HeldSet v (setOf v)) (x : Config) (n : ℕ) (e : n ≡ configCount v) (w z : List ℕ) where
+  pub insert-full : mostConfigs ≤ n → setLeft (refused 8) w v z ≡ insertCall w v z x
   unfolding insertCall
   insert-full f = sym (unless-first _ _ (given 8 _) [] (le-leb mostConfigs (length (setOf v .configs)) (omega (arith, h .count))))
 
   pub insert-done : n < mostConfigs → (m : ℕ) → m ≡ flagWord v → (b : ℕ) → b ≡ joinedFlags m x → (u : List ℕ) → u ≡ putConfig v n x
-      → (added 1, set (set u 0 (n + 1)) 1 b) ≡ insertCall v x
+      → setLeft (added 1) w (set (set u 0 (n + 1)) 1 b) z ≡ insertCall w v z x
   unfolding insertCall unless
   insert-done few m em b eb u eu =
       let S : Set = setOf v in
@@ -77,5 +77,5 @@ module _ (v : List ℕ) (h : HeldSet v (setOf v)) (x : Config) (n : ℕ) (e : n 
         held-words (lastPut v n x b) (withConfigs S (S .configs ++ (x ∷ [])))
             (insert-held v S h x n (e ∙ h .count) few b (eb ∙ ap (λ (k : ℕ). joinedFlags k x) em)),
       )
-      (sym (unless-next (λ k. (refused k, v)) (added 1, setWords (withConfigs S (S .configs ++ (x ∷ [])))) (given 8 _) []
+      (sym (unless-next (λ k. setLeft (refused k) w v z) (setLeft (added 1) w (setWords (withConfigs S (S .configs ++ (x ∷ [])))) z) (given 8 _) []
       (lt-leb mostConfigs (length (S .configs)) (omega (arith, h .count)))))

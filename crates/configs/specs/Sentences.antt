@@ -279,6 +279,10 @@ module _ (w v z : List ℕ) (x : Config) (a : ℕ) (w′ v′ : List ℕ) (ok : 
       (λ i l q. rw (merged-call i l q) at (merge-figure w z (configAt v i .context) (x .context) (not (flag 1 v))))
       (λ n. rw (inserted-store n) (omega (arith, made, ap (λ (A : Addition). length (A .store)) (insertion n))))
 
+  -- none where the key is new
+  pub inserted-none : ((i : ℕ) → i < configCount v → key (configAt v i) ≡ key x → ⊥) → addCall w v z x .made ≡ 0
+  inserted-none n = omega (arith, added-grows, ap contexts (inserted-store n))
+
   -- and the set's own flags are as they were
   pub full-kept : flag 1 v′ ≡ flag 1 v
   full-kept = key? (λ i l q. ap (λ (S : Set). S .full) (merged-set i l q)) (λ n. ap (λ (S : Set). S .full) (held-set v′ _ (inserted-held n)))

@@ -1,7 +1,7 @@
 // A config added to a set.
 use crate::joining::join;
 use crate::write::put_config;
-use contexts::Work;
+use contexts::Tally;
 use setcheck::AtnConfig;
 use setcheck::inner::flags::joined_flags;
 use setcheck::inner::keys::KeyPlace;
@@ -15,25 +15,27 @@ use setcheck::inner::read::flag_word;
 use setcheck::inner::read::has_flag;
 use store::inner::admit::Admitted;
 use words::Refusal;
+ghost use mathlib.Core.List.{List};
 ghost use mathlib.Core.Path.{_≡_};
+ghost use Prim.Native.Nat.{ℕ};
 ghost use Rattle.sets.specs.Calls.{addCall};
 ghost use Rattle.setcheck.specs.Configs.{configOf};
 ghost use Rattle.configs.specs.Adding.{Addable, addRest, insertCall};
 ghost use Rattle.sets.specs.Held.{HeldSet};
 ghost use Rattle.sets.specs.Words.{setOf};
-ghost use Rattle.configs.specs.Replies.{addedLeft, addedReply, noWork, workOf};
+ghost use Rattle.configs.specs.Replies.{addedLeft};
 
-// What adding a config answers: inserted, or merged with so much work.
+// What adding a config answers: inserted, or merged, and what was counted.
 pub enum Added {
     Inserted,
-    Merged(Work),
+    Merged(Tally),
     Refused(Refusal),
 }
 
 // Puts a config last, where the set has room. Refused 8.
 fn insert(set: &mut [u32], config: AtnConfig) -> Added
     requires { ⌜ HeldSet (now set) (setOf (now set)) ⌝ }
-    ensures { λ r. ⌜ ((addedReply r, now (set .exit)) ≡ insertCall (now (set .entry)) (configOf config)) × (workOf r ≡ noWork) ⌝ }
+    ensures { λ r. ⌜ ((w z : List ℕ) → addedLeft r w (now (set .exit)) z ≡ insertCall w (now (set .entry)) z (configOf config)) ⌝ }
 {
     let count = config_count(set) as usize;
     if MOST_CONFIGS <= count {

@@ -65,10 +65,10 @@ pub fn join(
     let wildcard = !has_flag(set, FULL_CONTEXT);
     let merged = merge_known(store, scratch, held.context, config.context, wildcard);
     match merged {
-        Merged::Number(context, work) => {
+        Merged::Number(context, tally) => {
             put_config(set, place, joined_config(held, config, context));
             set[1] = joined_flags(flag_word(set), config);
-            Added::Merged(work)
+            Added::Merged(tally)
         }
         Merged::Refused(refusal) => Added::Refused(refusal),
     }

@@ -3,5 +3,5 @@ pub mod inner;
 mod merges;
 
 pub use merges::Merged;
-pub use merges::Work;
+pub use merges::Tally;
 pub use merges::merge;

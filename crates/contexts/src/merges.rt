@@ -15,14 +15,14 @@ ghost use Rattle.contexts.specs.MergeCall.Laws.{mergedKnown};
 ghost use Rattle.contexts.specs.Replies.{merged};
 
 // How many merges a call counted, and how many contexts it made.
-pub struct Work {
+pub struct Tally {
     pub merges: u32,
     pub made: u32,
 }
 
-// What a merge answers: the context's number, and the work that it took.
+// What a merge answers: the context's number, and what was counted.
 pub enum Merged {
-    Number(ContextId, Work),
+    Number(ContextId, Tally),
     Refused(Refusal),
 }
 
@@ -45,7 +45,7 @@ pub fn merge_known(
         Numbered::Number(context, made) => {
             let merges = cache::merges_counted(scratch);
             words::clear(scratch);
-            Merged::Number(context, Work { merges, made })
+            Merged::Number(context, Tally { merges, made })
         }
         Numbered::Refused(refusal) => {
             cut_back(store, count, used);

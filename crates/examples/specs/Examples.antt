@@ -181,12 +181,12 @@ P1-to-P12 = (refl, refl, refl, refl, refl, refl, refl, refl, refl, refl, refl, r
 -- ---- how many contexts a call made (request A3)
 
 -- `C 1 1`, `C 2 1`, `C 3 1`, `C 4 1`, `A 1 0`; `A 0 2`, of the merge in P7; `A 0 0`, of a merge that finds what it needs
-pub figures :
+pub contexts-made :
     said (singleton 0 100 ∷ singleton 0 200 ∷ singleton 1 7 ∷ singleton 2 7 ∷ add (config 9 1 3) ∷ add (config 9 1 4) ∷ add (config 9 1 4) ∷ [])
     ≡ contextLine 1 1 ++ contextLine 2 1 ++ contextLine 3 1 ++ contextLine 4 1 ++ addedLine 1 0
     ++ 65 ∷ 32 ∷ 48 ∷ 32 ∷ 50 ∷ 10 ∷ 65 ∷ 32 ∷ 48 ∷ 32 ∷ 48 ∷ 10 ∷ []
 unfolding said saidFrom fresh opened
-figures = refl
+contexts-made = refl
 
 -- ---- none is told from alternative 0
 

@@ -30,7 +30,10 @@ pub fn answer(interned: Interned, made: u32) -> Numbered
 {
     match interned {
         Interned::Found(context) => Numbered::Number(context, made),
-        Interned::Made(context) => Numbered::Number(context, made + 1),
+        Interned::Made(context) => {
+            let all = made + 1;
+            Numbered::Number(context, all)
+        }
         Interned::NoRoom => Numbered::Refused(Refusal::FullStore),
     }
 }

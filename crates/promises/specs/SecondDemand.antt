@@ -70,7 +70,8 @@ use Rattle.verdicts.specs.Calls.{allSubsetsConflictCall, allSubsetsEqualCall, t
 use Rattle.verdicts.specs.Sentences as Judged
 use Rattle.promises.specs.Words.{store-sound, known, asks, lent, answers, close-leaves}
 
--- "equal the Rust's within our capacities (differential runs)": no theorem, but the gate's comparisons with the Rust that is ported, in rust/.
+-- "equal the Rust's within our capacities (differential runs)": no theorem, but the gate's comparisons with the Rust that is ported, in rust/; how many contexts a call made
+-- the Rust does not say, and the oracle counts its records for it (request A3).
 
 -- ---- the words of a store
 

@@ -34,7 +34,8 @@ pub union : (w z : List ℕ) (a b c : ℕ) (v : List ℕ) → Accepts (mergeCall
 union = merge-is-union
 
 -- "readers that share a store get stack sets, alternative subsets and verdicts as if alone": what reader i sees of the calls of all readers,
--- none of which is refused for room or work, is what it sees of its own calls alone, whatever the words held that were lent for them
+-- none of which is refused for room or work, is what it sees of its own calls alone, whatever the words held that were lent for them. How many
+-- contexts a call made is no part of what a reader sees: it depends on what other readers stored before (request A3; readers: `figures-differ`)
 pub shared-as-alone : (i : ℕ) (calls : List (By Call)) (lent lent′ : ℕ → Lent) → ((n : ℕ) → Sized (lent n)) → ((n : ℕ) → Sized (lent′ n))
     → Roomy (run lent calls) → Roomy (run lent′ (only i calls)) → only i (run lent calls) ≡ run lent′ (only i calls)
 shared-as-alone = as-if-alone

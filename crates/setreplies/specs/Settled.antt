@@ -6,8 +6,8 @@ use Prim.Native.Nat.{ℕ}
 use Rattle.words.specs.Refusals.{number}
 use Rattle.words.specs.declared.refusals.Refusal.{Refusal}
 use Rattle.sets.specs.Calls.{SetLeft, setLeft, freshSetCall}
-use Rattle.contexts.specs.declared.merges.Work.{Work}
-use Rattle.configs.specs.Replies.{settled, addedReply, workOf, addedLeft}
+use Rattle.contexts.specs.declared.merges.Tally.{Tally}
+use Rattle.configs.specs.Replies.{settled, addedLeft}
 use Rattle.configs.specs.declared.settle.Settled.{Settled}
 use Rattle.configs.specs.declared.settle.Settled.the-variants.{Done, Refused as NotSettled}
 use Rattle.configs.specs.declared.adding.Added.{Added}
@@ -51,18 +51,20 @@ module _ (b : List ℕ) (r : ℕ) (u v v′ z : List ℕ) (full : Bool) (a : Set
 
 -- the line of the answer
 abbrev pub addedLineOf : Added → List ℕ
-addedLineOf a = setLineOf [] (workOf a .made) (addedReply a)
+addedLineOf a = let x = addedLeft a [] [] [] in setLineOf [] (x .made) (x .reply)
 
 pub added-call : (b : List ℕ) (x : SetLeft) (a : Added) (r : ℕ) (u w v z : List ℕ) → addedLeft a w v z ≡ x
     → Wrote b 0 (addedLineOf a) r u → SetReplied b [] x r u w v z
-added-call b x a r u w v z e p = rw (← e) (record { wrote = p; store = refl; set = refl; scratch = refl })
+added-call b x Inserted r u w v z e p = rw (← e) (record { wrote = p; store = refl; set = refl; scratch = refl })
+added-call b x (Merged k) r u w v z e p = rw (← e) (record { wrote = p; store = refl; set = refl; scratch = refl })
+added-call b x (NotAdded f) r u w v z e p = rw (← e) (record { wrote = p; store = refl; set = refl; scratch = refl })
 
 module _ (b : List ℕ) (j : ℕ) (u : List ℕ) (a : Added) where
   pub inserted-line : a ≡ Inserted → Wrote b 0 (numbersLine 65 1 0) j u → Wrote b 0 (addedLineOf a) j u
   unfolding setLineOf addedLine
   inserted-line e v = rw e v
 
-  pub merged-line : (k : Work) → a ≡ Merged k → Wrote b 0 (numbersLine 65 0 (k .made)) j u → Wrote b 0 (addedLineOf a) j u
+  pub merged-line : (k : Tally) → a ≡ Merged k → Wrote b 0 (numbersLine 65 0 (k .made)) j u → Wrote b 0 (addedLineOf a) j u
   unfolding setLineOf addedLine
   merged-line k e v = rw e v
 

@@ -75,7 +75,7 @@ addChecks w v z x =
 unfoldable pub freshSetCall : List ℕ → Bool → SetReply × List ℕ
 freshSetCall v f = unless (given 2 (not (eqb (length v) setWordsLength)) ∷ []) (λ n. (refused n, v)) (done, setWords (emptySet f))
 
--- the addition A, after n merges; made: "exactly the count after less the count before", which is that of s
+-- the addition A, after n merges; made is "exactly the count after less the count before", s being the store before
 abbrev pub addsAfter : ℕ → Store → Addition → SetLeft
 addsAfter n s A = setLeftAfter n (length (A .store) - length s) (added (A .answer)) (wordsOf (A .store)) (setWords (A .set)) zeros
 

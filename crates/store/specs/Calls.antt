@@ -74,7 +74,7 @@ tooMuchWork o = given 12 (tooMuch o)
 
 -- ---- what a call leaves that is not refused
 
--- a number, after n merges, and the words of the store that has it; made: "exactly the count after less the count before", which is that of s
+-- the number and the words of the store of x, after n merges; made is "exactly the count after less the count before", s being the store before
 abbrev pub givesAfter : ℕ → Store → ℕ × Store → Left
 givesAfter n s x = leavesAfter n (length (x .1) - length s) (context (x .0)) (wordsOf (x .1)) zeros
 

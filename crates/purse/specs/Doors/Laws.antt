@@ -14,6 +14,7 @@ use Rattle.interning.specs.declared.single.Numbered.{Numbered}
 use Rattle.interning.specs.declared.single.Numbered.the-variants.{Number, Refused as NotNumbered}
 use Rattle.configs.specs.Replies.{addedLeft}
 use Rattle.configs.specs.declared.adding.Added.{Added}
+use Rattle.configs.specs.declared.adding.Added.the-variants.{Inserted, Merged as Joined, Refused as NotAdded}
 use Rattle.answers.specs.declared.structs.CountedAnswer.{CountedAnswer}
 use Rattle.answers.specs.SetAnswers.{setCountedOf, setNumberOf}
 use Rattle.purse.specs.Doors.{OpensSet, OpensVerdict, Opens, OpensCounted, OpensSetCounted}
@@ -52,7 +53,9 @@ set-door of a x w v z l h e =
 
 pub set-counted-door : (a : CountedAnswer) (r : Added) (w v z : List ℕ) (l : SetLeft) → a ≡ setCountedOf (addedLeft r [] [] [])
     → addedLeft r w v z ≡ l → OpensSetCounted l a w v z
-set-counted-door a r w v z l h e = rw (← e) (h, refl, refl, refl)
+set-counted-door a Inserted w v z l h e = rw (← e) (h, refl, refl, refl)
+set-counted-door a (Joined k) w v z l h e = rw (← e) (h, refl, refl, refl)
+set-counted-door a (NotAdded f) w v z l h e = rw (← e) (h, refl, refl, refl)
 
 pub set-counted-determined : (x : SetLeft) (a b : CountedAnswer) (w v z u t y : List ℕ) → OpensSetCounted x a w v z → OpensSetCounted x b u t y
     → (a ≡ b) × (w ≡ u) × (v ≡ t) × (z ≡ y)

@@ -65,7 +65,7 @@ fn uncounted(answer: Merged) -> Numbered
     ensures { λ r. ⌜ leftLine [] (numbered r [] []) ≡ leftLine [] (merged answer [] []) ⌝ }
 {
     match answer {
-        Merged::Number(context, work) => Numbered::Number(context, work.made),
+        Merged::Number(context, tally) => Numbered::Number(context, tally.made),
         Merged::Refused(refusal) => Numbered::Refused(refusal),
     }
 }

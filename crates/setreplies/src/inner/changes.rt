@@ -38,7 +38,7 @@ fn lay_added(out: &mut [u8], answer: Added) -> usize
 {
     match answer {
         Added::Inserted => lay_numbers(out, b'A', 1, 0),
-        Added::Merged(work) => lay_numbers(out, b'A', 0, work.made),
+        Added::Merged(tally) => lay_numbers(out, b'A', 0, tally.made),
         Added::Refused(refusal) => lay_number(out, b'R', words::refusal_number(refusal)),
     }
 }

@@ -1,11 +1,8 @@
 -- The chain says whether the key is there: the config is joined, or goes last.
 use borrow.Author.Needs.{needs}
 use mathlib.Core.Path.{_≡_, sym, ap, _∙_}
-use Rattle.contexts.specs.declared.merges.Work.{Work}
-use Rattle.sets.specs.Calls.{setLeftAfter}
 use Rattle.setcheck.specs.Keys.{placeOf}
 use Rattle.setcheck.specs.declared.inner.keys.KeyPlace.the-variants.{At}
-use Rattle.configs.specs.Replies.{addedReply}
 use Rattle.configs.specs.Adds.{add-sought, add-holds, add-joinable, add-at, add-last}
 use Rattle.configs.proofs.adding.add_known.Statement.{statement}
 use Rattle.configs.proofs.adding.add_known.Tie as tie
@@ -31,9 +28,9 @@ returns c =
     let find-key = c .before .before .before .before .before .before .before .before .before .before .find-key in
     let insert = c .before .before .insert in
     let clear = c .before .before .before .before .before .before .clear in
-    ap (λ (k : Work). setLeftAfter (k .merges) (k .made) (addedReply (insert .result)) (args .store .now) (insert .last .0) (clear .last .0)) (insert .ensures .1)
+    insert .ensures (args .store .now) (clear .last .0)
     ∙ add-last pre (config-count .result) (config-count .ensures) (sym (ap placeOf (enum-told .given .1)) ∙ find-key .ensures)
-    (addedReply (insert .result)) (insert .last .0) (insert .ensures .0) (clear .last .0) (clear .ensures)
+    (clear .last .0) (clear .ensures)
 
 join-requires : tie.Need-join-requires
 join-requires c κs =

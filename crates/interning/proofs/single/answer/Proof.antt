@@ -7,7 +7,7 @@ use Rattle.interning.specs.declared.inner.intern.Interned.{Interned}
 use Rattle.interning.proofs.single.answer.Statement.{statement}
 use Rattle.interning.proofs.single.answer.Tie as tie
 
-add : tie.Need-add-t6
+add : tie.Need-add-all
 add c = omega (arith, c .before .before .before .pre)
 
 returns : tie.Need-returns

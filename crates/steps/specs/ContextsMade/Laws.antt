@@ -7,7 +7,7 @@ use native.Mathlib.Omega.{arith}
 use lib.ListN.{length}
 use borrow.Author.Tests.{lt-ltb, le-ltb}
 use Rattle.cases.specs.Numbers.{below?, never}
-use Rattle.layout.specs.Layout.{blank, count as contexts}
+use Rattle.layout.specs.Layout.{blank, used, count as contexts}
 use Rattle.layout.specs.Encode.{putCounts, putNode, written, wordsOf}
 use Rattle.store.specs.Checks.Laws.{by-unless}
 use Rattle.store.specs.Calls.{Left, refusal, done, asked}
@@ -21,10 +21,11 @@ use Rattle.contexts.specs.MergeCall.{mergeCall}
 use Rattle.contexts.specs.Promises.{merge-figure}
 use Rattle.configs.specs.Sentences.{add-figure}
 use Rattle.format.specs.Format.{Record, singleton, merge, newSet, add, stops, verdict, show, close, why, Reading, found, ended, malformed, readAt}
+use Rattle.lines.specs.Lines.{numbersLine, endLine}
 use Rattle.replies.specs.Replies.{Lent, lineOf, setLineOf, newSetCall, callOf}
 use Rattle.steps.specs.Steps.{mostBytes, fresh, goes, over, readingStep, stepOf, runFrom, runOf}
 use Rattle.steps.specs.Steps.Laws.{after?, run-over, run-next}
-use Rattle.steps.specs.Figures.{madeBy, madeAt, sumFrom, sumOf}
+use Rattle.steps.specs.ContextsMade.{madeBy, madeAt, sumFrom, sumOf}
 
 module _ (l : Lent) where
   -- ---- what is printed: on a refusal's line the figure does not stand
@@ -117,3 +118,8 @@ fresh-contexts = refl
 pub sum-of-figures : (s : List ℕ) → contexts (runOf s .words .store) ≡ 1 + sumOf s
 unfolding runOf sumOf
 sum-of-figures s = omega (arith, sum-from (suc (length s)) s 0 fresh, fresh-contexts)
+
+-- as the end line says it
+pub sum-printed : (s : List ℕ) → endLine (runOf s .words .store) ≡ numbersLine 84 (1 + sumOf s) (used (runOf s .words .store))
+unfolding endLine
+sum-printed s = ap (λ (n : ℕ). numbersLine 84 n (used (runOf s .words .store))) (sum-of-figures s)
