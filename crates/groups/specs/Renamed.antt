@@ -1,8 +1,8 @@
--- Where two lists of configs differ in their context numbers only, as the same configs in two stores do, groups agree up to the contexts and
--- all other answers are equal. Nothing here has to be believed.
+-- Where two lists of configs differ in their context numbers only, as the same configs in two stores do, groups and the reason agree up to the
+-- contexts and all other answers are equal. Nothing here has to be believed.
 use mathlib.Core.Path.{_≡_, refl, sym, ap, ap₂, _∙_, subst₂}
 use mathlib.Core.Logic.{inl, inr, ⊎-elim, _↔_}
-use mathlib.Core.Bool.{Bool, _&&_, _||_, not}
+use mathlib.Core.Bool.{Bool, true, false, _&&_, _||_, not}
 use mathlib.Core.List.{List, [], _∷_, map, flatMap}
 use Prim.Native.Nat.{ℕ, suc}
 use lib.Dec.{eqb, ltb}
@@ -16,6 +16,9 @@ use Rattle.groups.specs.Lists.Tests.{which-yes, which-no}
 use Rattle.groups.specs.Groups.{Group, rising, altsOf, together, firsts, subset, groups}
 use Rattle.groups.specs.Answers.{many, conflictingAlts, allSubsetsConflict, within, allSubsetsEqual, agree, singleViableAlt, uniqueAlt, stopped, justOne, verdict}
 use Rattle.groups.specs.Sentences.{Smallest, Viable}
+use Rattle.groups.specs.Reason as Reasons
+use Rattle.groups.specs.Reason.{Reason, stop, one, clash, pick, reason}
+use Rattle.groups.specs.Reason.Laws.{pick-yes, pick-no}
 use Rattle.groups.specs.Firsts.{other}
 use Rattle.groups.specs.Single.{says-unique, viable-says}
 
@@ -37,6 +40,12 @@ pub data Twin (M : ℕ → ℕ → Type 0) : Config → Config → Type 0 where
 
 pub data TwinGroup (M : ℕ → ℕ → Type 0) : Group → Group → Type 0 where
   twinGroup : (g : Group) (k : ℕ) → M (g .context) k → TwinGroup M g (movedGroup g k)
+
+pub data TwinReason (M : ℕ → ℕ → Type 0) : Reason → Reason → Type 0 where
+  twinStop : TwinReason M stop stop
+  twinNone : TwinReason M Reasons.none Reasons.none
+  twinOne : (s a : ℕ) → TwinReason M (one s a) (one s a)
+  twinClash : (s : ℕ) (xs : List ℕ) {k l : ℕ} → M k l → TwinReason M (clash s k xs) (clash s l xs)
 
 -- which is one to one
 abbrev pub OneToOne : (ℕ → ℕ → Type 0) → Type 0
@@ -93,6 +102,16 @@ module _ {A B : Type 0} {R : A → B → Type 0} where
         bool? (t x)
         (λ e. subst₂ (Each R) (sym (which-yes t x xs e)) (sym (which-yes u y ys (sym (same x y r) ∙ e))) (more r (each-which l)))
         (λ e. subst₂ (Each R) (sym (which-no t x xs e)) (sym (which-no u y ys (sym (same x y r) ∙ e))) (each-which l))
+
+    -- what is said of the first that passes, and else
+    each-pick : {X Y : Type 0} (S : X → Y → Type 0) (f : A → X) (g : B → Y) (x : X) (y : Y) → ((a : A) (b : B) → R a b → S (f a) (g b)) → S x y
+        → {xs : List A} {ys : List B} → Each R xs ys → S (pick t xs f x) (pick u ys g y)
+    unfolding pick
+    each-pick S f g x y h o none = o
+    each-pick S f g x y h o (more {x = a} {y = b} {xs = xs} {ys = ys} r l) =
+        bool? (t a)
+        (λ e. subst₂ S (sym (pick-yes t f x a xs e)) (sym (pick-yes u g y b ys (sym (same a b r) ∙ e))) (h a b r))
+        (λ e. subst₂ S (sym (pick-no t f x a xs e)) (sym (pick-no u g y b ys (sym (same a b r) ∙ e))) (each-pick S f g x y h o l))
 
 -- ---- configs that correspond
 
@@ -182,8 +201,34 @@ module _ (M : ℕ → ℕ → Type 0) (fair : OneToOne M) where
     unfolding uniqueAlt
     twin-unique = ap agree (each-map _ _ same-alt l)
 
+    stopped-same : (stops : List ℕ) → stopped stops cs ≡ stopped stops ds
+    unfolding stopped
+    stopped-same stops = each-all _ _ (λ c d p. ap (λ (s : ℕ). any (eqb s) stops) (same-state c d p)) l
+
     pub twin-verdict : (stops : List ℕ) → verdict stops cs ≡ verdict stops ds
-    unfolding verdict stopped
+    unfolding verdict
     twin-verdict stops =
-        ap₂ _||_ (each-all _ _ (λ c d p. ap (λ (s : ℕ). any (eqb s) stops) (same-state c d p)) l)
+        ap₂ _||_ (stopped-same stops)
         (ap₂ (λ (m j : Bool). m && not j) (each-any many many many-same twin-groups) (each-any (justOne cs) (justOne ds) just-same l))
+
+    -- ---- the reason
+
+    one-same : (c d : Config) → Twin M c d → TwinReason M (one (c .state) (c .alternative)) (one (d .state) (d .alternative))
+    one-same c d (twin _ k p) = twinOne (c .state) (c .alternative)
+
+    clash-same : (g h : Group) → TwinGroup M g h → TwinReason M (clash (g .state) (g .context) (g .alternatives)) (clash (h .state) (h .context) (h .alternatives))
+    clash-same g h (twinGroup _ k p) = twinClash (g .state) (g .alternatives) p
+
+    unless-stopped : (b b′ : Bool) → b ≡ b′ → {r r′ : Reason} → TwinReason M r r′
+        → TwinReason M (elim b [ true ↦ stop | false ↦ r ]) (elim b′ [ true ↦ stop | false ↦ r′ ])
+    unless-stopped true b′ e q = rw (← e) twinStop
+    unless-stopped false b′ e q = rw (← e) q
+
+    -- The reasons agree up to the context of a clash.
+    pub twin-reason : (stops : List ℕ) → TwinReason M (reason stops cs) (reason stops ds)
+    unfolding reason
+    twin-reason stops =
+        unless-stopped (stopped stops cs) (stopped stops ds) (stopped-same stops)
+        (each-pick many many many-same (TwinReason M) _ _ Reasons.none Reasons.none
+        (λ g h p. each-pick (justOne cs) (justOne ds) just-same (TwinReason M) _ _ _ _ one-same (clash-same g h p) l)
+        twinNone twin-groups)

@@ -11,8 +11,9 @@ use Rattle.sets.specs.Lists.{any}
 use Rattle.sets.specs.Layout.{mostConfigs}
 use Rattle.sets.specs.Sets.{Set, withConfigs, key, sameKey, held, joined, joinedAll}
 use Rattle.groups.specs.Groups.{Group}
-use Rattle.groups.specs.Renamed.{Each, none, more, each-length, moved, Twin, twin, TwinGroup, twinGroup}
-use Rattle.readers.specs.Calls.{Plain, Part, part, Got, refused, context, groups, plain}
+use Rattle.groups.specs.Reason.{Reason}
+use Rattle.groups.specs.Renamed.{Each, none, more, each-length, moved, Twin, twin, TwinGroup, twinGroup, TwinReason, twinStop, twinNone, twinOne, twinClash}
+use Rattle.readers.specs.Calls.{Plain, Part, part, Got, refused, context, groups, plain, reasoned}
 use Rattle.readers.specs.Runs.{heard}
 use Rattle.readers.specs.Pure.{partOf}
 
@@ -92,6 +93,13 @@ module _ (R : Rel) where
 
   pub parts-alike : {l m : List Group} → Each (TwinGroup R) l m → Each (Parts R) (map partOf l) (map partOf m)
   parts-alike l = each-map (TwinGroup R) (Parts R) partOf partOf group-part l
+
+  pub reason-alike : {r t : Reason} → TwinReason R r t → Gots R (reasoned r) (reasoned t)
+  unfolding reasoned
+  reason-alike twinStop = plains _
+  reason-alike twinNone = plains _
+  reason-alike (twinOne s a) = plains _
+  reason-alike (twinClash s xs r) = grouped (more (parts s xs r) none)
 
   -- ---- adding
 

@@ -13,10 +13,12 @@ use Rattle.queries.specs.Queries.{Question, queryCall}
 use Rattle.sets.specs.Config.{config}
 use Rattle.sets.specs.Calls as Sets
 use Rattle.sets.specs.Calls.{SetReply, SetLeft, freshSetCall, addCall, closeCall}
+use Rattle.groups.specs.Reason.{Reason, stop, none, one, clash}
 use Rattle.outputs.specs.Outputs.{subsetsLength, altsLength}
 use Rattle.verdicts.specs.Calls as Verdicts
 use Rattle.verdicts.specs.Calls.{VerdictReply, VerdictLeft, conflictingAltSubsetsCall, conflictingAltsCall, uniqueAltCall, singleViableAltCall, allSubsetsConflictCall, allSubsetsEqualCall}
 use Rattle.verdicts.specs.Calls.{verdictCall}
+use Rattle.reasons.specs.Calls.{whyCall}
 
 -- "naming a context only as 0 or as an earlier answer of its own": by its place, from 0 on, in the list of 0 and the contexts among its answers; a
 -- place past the end is 0 too
@@ -31,7 +33,7 @@ pub data Call : Type 0 where
   add : ℕ → ℕ → Name → ℕ → ℕ → ℕ → Call  -- state, alternative, context, semantic id, reach, provenance
   close : Call
   subsets conflictingAlts uniqueAlt singleViableAlt allSubsetsConflict allSubsetsEqual : Call
-  verdict : List ℕ → Call  -- the stop states
+  verdict why : List ℕ → Call  -- the stop states
 
 -- what is lent for one call besides store and set, with any contents: scratch, and words for subsets and for alternatives
 pub record Lent : Type 0 where
@@ -80,6 +82,13 @@ settled (Sets.refused n) = refused n
 settled Sets.done = plain (ofSet Sets.done)
 settled (Sets.added a) = plain (ofSet (Sets.added a))
 
+-- a clash as the subset that clashes, whose context is a context like any other
+unfoldable pub reasoned : Reason → Got ℕ
+reasoned stop = plain (ofSubsets (Verdicts.because stop))
+reasoned none = plain (ofSubsets (Verdicts.because none))
+reasoned (one s a) = plain (ofSubsets (Verdicts.because (one s a)))
+reasoned (clash s k xs) = groups (part s k xs ∷ [])
+
 -- g is what the words hold that were written
 unfoldable pub judged : VerdictReply → Got ℕ → Got ℕ
 judged (Verdicts.refused n) g = refused n
@@ -87,7 +96,7 @@ judged (Verdicts.says b) g = plain (ofSubsets (Verdicts.says b))
 judged (Verdicts.alternative a) g = plain (ofSubsets (Verdicts.alternative a))
 judged Verdicts.written g = g
 judged (Verdicts.summary x) g = plain (ofSubsets (Verdicts.summary x))
-judged (Verdicts.because x) g = plain (ofSubsets (Verdicts.because x))
+judged (Verdicts.because r) g = reasoned r
 
 -- "group count, then per group state, context, alternative count, alternatives"
 unfoldable pub groupsFrom : ℕ → List ℕ → List (Part ℕ)
@@ -145,3 +154,4 @@ step L w R singleViableAlt = onSubsets w R wordsOnly (singleViableAltCall w (R .
 step L w R allSubsetsConflict = onSubsets w R wordsOnly (allSubsetsConflictCall w (R .set) (L .scratch))
 step L w R allSubsetsEqual = onSubsets w R wordsOnly (allSubsetsEqualCall w (R .set) (L .scratch))
 step L w R (verdict stops) = onSubsets w R wordsOnly (verdictCall w (R .set) (L .scratch) stops)
+step L w R (why stops) = onSubsets w R wordsOnly (whyCall w (R .set) (L .scratch) stops (L .alternatives))

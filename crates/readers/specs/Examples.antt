@@ -1,6 +1,6 @@
 -- A run of two readers that lacks no room, and in which the second's numbers are not those that it gets alone. Nothing here has to be believed.
 use mathlib.Core.Path.{_≡_, refl, sym, subst}
-use mathlib.Core.Bool.{false}
+use mathlib.Core.Bool.{true, false}
 use mathlib.Core.List.{List, [], _∷_}
 use Prim.Native.Nat.{ℕ}
 use Rattle.cases.specs.Numbers.{never}
@@ -15,10 +15,17 @@ use Rattle.store.specs.Checks.{unless}
 use Rattle.store.specs.Calls.{gives}
 use Rattle.interning.specs.SingletonCall.{singleS}
 use Rattle.work.specs.Counted.{tooMuch, counting, counted, deep, step, recall, begins, made, walk, before, andThen, interned, completed, keep}
+use Rattle.sets.specs.Config.{config}
+use Rattle.sets.specs.Lists.{any, all}
+use Rattle.sets.specs.Sets.{emptySet, withConfigs}
 use Rattle.groups.specs.Lists.{which}
-use Rattle.readers.specs.Calls.{Call, singleton, merge, Lent, Sized, context}
+use Rattle.groups.specs.Groups as Grouped
+use Rattle.groups.specs.Groups.{insert, rising, altsOf, together, firsts, subset}
+use Rattle.groups.specs.Answers.{many, stopped, justOne}
+use Rattle.groups.specs.Reason.{pick, reason}
+use Rattle.readers.specs.Calls.{Call, singleton, merge, why, Lent, Sized, part, Got, context, groups, reasoned}
 use Rattle.readers.specs.Runs.{see, heard, By, run, only, Served, Roomy}
-use Rattle.readers.specs.Pure.{stateAfter}
+use Rattle.readers.specs.Pure.{State, stateAfter}
 use Rattle.readers.specs.Turns.{pureFrom}
 use Rattle.readers.specs.Twins.{after}
 use Rattle.readers.specs.Alone.{first, beginner, run-first, as-if-alone}
@@ -45,7 +52,13 @@ unfolding pureFrom which stateAfter unless see heard singleS place placeE intern
 alone-room = (served _, (served _, tt))
 
 -- The second reader's first context is 2 beside the first reader, and 1 alone.
-numbers-differ : (after (after first beginner (singleton 0 7) .store) beginner (singleton 0 8) .got ≡ context 2) × (after first beginner (singleton 0 8) .got ≡ context 1)
+abbrev shared : State
+shared = after (after first beginner (singleton 0 7) .store) beginner (singleton 0 8)
+
+abbrev lone : State
+lone = after first beginner (singleton 0 8)
+
+numbers-differ : (shared .got ≡ context 2) × (lone .got ≡ context 1)
 unfolding stateAfter unless singleS place placeE intern listed find same tree treeOf fits pool room size
 numbers-differ = (refl, refl)
 
@@ -56,6 +69,14 @@ madeOver s = gives s (singleS s 0 7) .made
 figures-differ : (madeOver first ≡ 1) × (madeOver (after first beginner (singleton 0 7) .store) ≡ 0)
 unfolding stateAfter unless singleS place placeE intern listed find same tree treeOf fits pool room size length
 figures-differ = (refl, refl)
+
+-- So does the number in a clash, of two alternatives in that context.
+abbrev clashIn : Store → ℕ → Got ℕ
+clashIn s c = stateAfter s (withConfigs (emptySet true) (config 5 1 c 0 0 0 ∷ config 5 2 c 0 0 0 ∷ [])) (0 ∷ c ∷ []) (why []) .got
+
+clashes-differ : (clashIn (shared .store) 2 ≡ groups (part 5 2 (1 ∷ 2 ∷ []) ∷ [])) × (clashIn (lone .store) 1 ≡ groups (part 5 1 (1 ∷ 2 ∷ []) ∷ []))
+unfolding stateAfter unless reason pick stopped all any Grouped.groups firsts together which subset altsOf rising insert many justOne reasoned
+clashes-differ = (refl, refl)
 
 -- What it sees is the same.
 pub second-as-if-alone : (lent lent′ : ℕ → Lent) → ((n : ℕ) → Sized (lent n)) → ((n : ℕ) → Sized (lent′ n)) → only 1 (run lent calls) ≡ run lent′ (only 1 calls)

@@ -39,7 +39,7 @@ use Rattle.sets.specs.Sound.{good-known}
 use Rattle.sets.specs.Kept.{good-more, good-inserted, good-joined}
 use Rattle.configs.specs.Adds.{add-joined, add-new}
 use Rattle.readers.specs.Calls.{Name, Call, singleton, merge, query, freshSet, add, close, subsets, conflictingAlts, uniqueAlt, singleViableAlt}
-use Rattle.readers.specs.Calls.{allSubsetsConflict, allSubsetsEqual, verdict, Got}
+use Rattle.readers.specs.Calls.{allSubsetsConflict, allSubsetsEqual, verdict, why, Got}
 use Rattle.readers.specs.Pure.{State, to, halt, singletonTo, mergeTo, addChecksOf, additionTo, verdictTo, stateAfter}
 
 -- ---- what is made
@@ -188,3 +188,4 @@ module _ (s : Store) (S : Set) (good : Good s S) where
     step-after allSubsetsConflict = stays _
     step-after allSubsetsEqual = stays _
     step-after (verdict stops) = checked _ _ (λ ok. stays _)
+    step-after (why stops) = checked _ _ (λ ok. stays _)

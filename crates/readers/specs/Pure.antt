@@ -43,13 +43,15 @@ use Rattle.sets.specs.Calls.{SetReply, SetLeft, setLeft, addsAfter, addWork, le
 use Rattle.groups.specs.Groups as Grouped
 use Rattle.groups.specs.Groups.{Group}
 use Rattle.groups.specs.Answers as Answers
+use Rattle.groups.specs.Reason.{reason}
 use Rattle.outputs.specs.Outputs.{subsetsLength, altsLength, padded, groupWords, subsetsWords, altsWords}
 use Rattle.verdicts.specs.Calls as Verdicts
-use Rattle.verdicts.specs.Calls.{VerdictReply, VerdictLeft, mostStops, conflictingAltSubsetsCall, conflictingAltsCall, uniqueAltCall, singleViableAltCall, allSubsetsConflictCall}
+use Rattle.verdicts.specs.Calls.{VerdictReply, VerdictLeft, mostStops, tooManyStops, conflictingAltSubsetsCall, conflictingAltsCall, uniqueAltCall, singleViableAltCall, allSubsetsConflictCall}
 use Rattle.verdicts.specs.Calls.{allSubsetsEqualCall, verdictCall}
+use Rattle.reasons.specs.Calls.{reasonWords, whyCall}
 use Rattle.readers.specs.Calls.{Name, Call, singleton, merge, query, freshSet, add, close, subsets, conflictingAlts, uniqueAlt, singleViableAlt}
-use Rattle.readers.specs.Calls.{allSubsetsConflict, allSubsetsEqual, verdict, Lent, Sized, ofSet, ofSubsets, words, Part, part, Got, refused, context, groups, plain, told}
-use Rattle.readers.specs.Calls.{settled, judged, groupsFrom, groupsIn, Done, leaving, Reader, onStore, onSet, onSubsets, wordsOnly, step}
+use Rattle.readers.specs.Calls.{allSubsetsConflict, allSubsetsEqual, verdict, why, Lent, Sized, ofSet, ofSubsets, words, Part, part, Got, refused, context, groups, plain, told}
+use Rattle.readers.specs.Calls.{settled, reasoned, judged, groupsFrom, groupsIn, Done, leaving, Reader, onStore, onSet, onSubsets, wordsOnly, step}
 
 -- ---- a call over a store and a set
 
@@ -93,6 +95,9 @@ abbrev pub verdictTo : Store → Set → List ℕ → State
 verdictTo s S stops =
     unless (given 10 (ltb mostStops (length stops)) ∷ []) (halt s S) (to (plain (ofSubsets (Verdicts.says (Answers.verdict stops (S .configs))))) s S)
 
+abbrev pub whyTo : Store → Set → List ℕ → State
+whyTo s S stops = unless (given 10 (ltb mostStops (length stops)) ∷ []) (halt s S) (to (reasoned (reason stops (S .configs))) s S)
+
 unfoldable pub stateAfter : Store → Set → List ℕ → Call → State
 stateAfter s S cs (singleton n r) = singletonTo s S r (getD cs n 0)
 stateAfter s S cs (merge n k m) = mergeTo s S m (getD cs n 0) (getD cs k 0)
@@ -107,6 +112,7 @@ stateAfter s S cs singleViableAlt = to (plain (ofSubsets (Verdicts.alternative (
 stateAfter s S cs allSubsetsConflict = to (plain (ofSubsets (Verdicts.says (Answers.allSubsetsConflict (S .configs))))) s S
 stateAfter s S cs allSubsetsEqual = to (plain (ofSubsets (Verdicts.says (Answers.allSubsetsEqual (S .configs))))) s S
 stateAfter s S cs (verdict stops) = verdictTo s S stops
+stateAfter s S cs (why stops) = whyTo s S stops
 
 -- its words
 abbrev pub wordsAfter : State → Done
@@ -284,6 +290,13 @@ module _ (s : Store) (g : GoodStore s) (S : Set) (good : goodSet (length s) S �
       ap (over (λ T. Verdicts.readCall altsLength [] w v z (L .alternatives) Verdicts.written (altsWords (T .configs))) wordsOnly) set-read
       ∙ subsets-asked altsLength [] (L .alternatives) (altsWords (S .configs)) Verdicts.written wordsOnly (sized .2)
 
+  why-is : (stops : List ℕ) → onSubsets w (reader []) wordsOnly (whyCall w v z stops (L .alternatives)) ≡ wordsAfter (whyTo s S stops)
+  unfolding whyCall judged
+  why-is stops =
+      let r = reason stops (S .configs) in
+      ap (over (λ T. let q = reason stops (T .configs) in Verdicts.readCall altsLength (tooManyStops stops) w v z (L .alternatives) (Verdicts.because q) (reasonWords q)) wordsOnly) set-read
+      ∙ subsets-asked altsLength (tooManyStops stops) (L .alternatives) (reasonWords r) (Verdicts.because r) wordsOnly (sized .2)
+
   -- an answer r on the set alone
   judged-is : (more : List Check) (r : Set → VerdictReply)
       → onSubsets w (reader []) wordsOnly (Verdicts.readCall 0 more w v z [] (r (setOf v)) []) ≡ wordsAfter (unless more (halt s S) (to (judged (r S) (wordsOnly [])) s S))
@@ -311,3 +324,4 @@ module _ (s : Store) (g : GoodStore s) (S : Set) (good : goodSet (length s) S �
     step-is allSubsetsConflict = judged-is [] (λ T. Verdicts.says (Answers.allSubsetsConflict (T .configs)))
     step-is allSubsetsEqual = judged-is [] (λ T. Verdicts.says (Answers.allSubsetsEqual (T .configs)))
     step-is (verdict stops) = judged-is (given 10 (ltb mostStops (length stops)) ∷ []) (λ T. Verdicts.says (Answers.verdict stops (T .configs)))
+    step-is (why stops) = why-is stops

@@ -37,17 +37,18 @@ use Rattle.sets.specs.Calls.{addWork}
 use Rattle.configs.specs.Adds.{add-joined, add-new}
 use Rattle.groups.specs.Groups as Grouped
 use Rattle.groups.specs.Answers as Answers
+use Rattle.groups.specs.Reason.{reason}
 use Rattle.groups.specs.Renamed as Renamed
-use Rattle.groups.specs.Renamed.{Each, more, moved, Twin, twin, OneToOne, twin-groups, twin-conflicting, twin-conflict, twin-equal, twin-viable, twin-unique, twin-verdict}
+use Rattle.groups.specs.Renamed.{Each, more, moved, Twin, twin, OneToOne, twin-groups, twin-conflicting, twin-conflict, twin-equal, twin-viable, twin-unique, twin-verdict, twin-reason}
 use Rattle.outputs.specs.Outputs.{altsLength, padded, altsWords}
 use Rattle.verdicts.specs.Calls as Verdicts
 use Rattle.verdicts.specs.Calls.{mostStops}
 use Rattle.readers.specs.Calls.{Name, Call, singleton, merge, query, freshSet, add, close, subsets, conflictingAlts, uniqueAlt}
-use Rattle.readers.specs.Calls.{singleViableAlt, allSubsetsConflict, allSubsetsEqual, verdict, ofStore, ofSet, ofSubsets, words, Got, refused, context, groups, plain, told}
-use Rattle.readers.specs.Pure.{State, to, halt, partOf, singletonTo, mergeTo, addChecksOf, additionTo, verdictTo, stateAfter}
+use Rattle.readers.specs.Calls.{singleViableAlt, allSubsetsConflict, allSubsetsEqual, verdict, why, ofStore, ofSet, ofSubsets, words, Got, refused, context, groups, plain, told, reasoned}
+use Rattle.readers.specs.Pure.{State, to, halt, partOf, singletonTo, mergeTo, addChecksOf, additionTo, verdictTo, whyTo, stateAfter}
 use Rattle.readers.specs.Kept.{Makes, singleT, single-makes, merge-makes, Good, Known, held-known, found?}
 use Rattle.readers.specs.Alike as Names
-use Rattle.readers.specs.Alike.{each-append, each-wider, Founds, both, neither, Sets, set, Gots, refusals, contexts, grouped, plains, configs-wider, sets-wider, parts-alike}
+use Rattle.readers.specs.Alike.{each-append, each-wider, Founds, both, neither, Sets, set, Gots, refusals, contexts, grouped, plains, configs-wider, sets-wider, parts-alike, reason-alike}
 use Rattle.readers.specs.Alike.{held-alike, join-alike, full-alike}
 
 -- ---- numbers that stand for the same stacks, each in its store
@@ -310,6 +311,12 @@ module _ (s t : Store) (S : Set) {ys : List Config} (w : Good s S) (v : Good t (
       (to (plain (ofSubsets (Verdicts.says (Answers.verdict stops (S .configs))))) s S) (to (plain (ofSubsets (Verdicts.says (Answers.verdict stops ys)))) t T) refl
       (λ o p. says-kept _ _ (twin-verdict (Like s t) one l stops))
 
+  why-kept : (stops : List ℕ) → Keeps (whyTo s S stops) (whyTo t T stops)
+  unfolding unless
+  why-kept stops = check-kept s t w v (set S l) 10 (ltb mostStops (length stops)) (ltb mostStops (length stops)) [] []
+      (to (reasoned (reason stops (S .configs))) s S) (to (reasoned (reason stops ys)) t T) refl
+      (λ o p. stay s t w v (set S l) (reason-alike (Like s t) (twin-reason (Like s t) one l stops)))
+
 -- ---- a reader in two stores
 
 -- its set and what it may name
@@ -370,3 +377,4 @@ module _ (s t : Store) (P Q : Own) (h : Both s t P Q) where
   step-kept allSubsetsConflict = owning _ (λ T. to (plain (ofSubsets (Verdicts.says (Answers.allSubsetsConflict (T .configs))))) t T) (λ S ys w v l. conflict-kept s t S w v l)
   step-kept allSubsetsEqual = owning _ (λ T. to (plain (ofSubsets (Verdicts.says (Answers.allSubsetsEqual (T .configs))))) t T) (λ S ys w v l. equal-kept s t S w v l)
   step-kept (verdict stops) = owning (λ S. verdictTo s S stops) (λ T. verdictTo t T stops) (λ S ys w v l. verdict-kept s t S w v l stops)
+  step-kept (why stops) = owning (λ S. whyTo s S stops) (λ T. whyTo t T stops) (λ S ys w v l. why-kept s t S w v l stops)

@@ -5,8 +5,8 @@ use std::collections::BTreeSet;
 
 use judge::random::Random;
 use pursecricket::{
-    Alternative, AtnConfig, AtnConfigSet, ContextArena, ContextId, EMPTY_CONTEXT, Refusal, ReturnState,
-    SemanticContextId,
+    Alternative, AtnConfig, AtnConfigSet, ContextArena, ContextId, EMPTY_CONTEXT, Reason, Refusal,
+    ReturnState, SemanticContextId,
 };
 
 type Stacks = BTreeSet<Vec<u64>>;
@@ -24,6 +24,7 @@ enum Call {
     Close,
     Ask,
     Verdict(Vec<u32>),
+    Why(Vec<u32>),
 }
 
 /// What a reader sees of an answer.
@@ -38,6 +39,10 @@ enum Seen {
     /// The subsets in order, then unique, viable, conflict, equal.
     Subsets(Vec<(u32, Stacks, BTreeSet<u32>)>, Option<Alternative>, Option<Alternative>, bool, bool),
     Verdict(bool),
+    /// A reason that names no context.
+    Because(Reason),
+    /// The subset that clashes.
+    Clash(u32, Stacks, Vec<Alternative>),
 }
 
 struct Reader {
@@ -101,6 +106,14 @@ impl Reader {
                 .set
                 .has_sll_conflict_terminating_prediction(arena, stops)
                 .map_or_else(Seen::Refused, Seen::Verdict),
+            Call::Why(stops) => match self.set.why(arena, stops) {
+                Ok(Reason::Clash { state, context, alternatives }) => {
+                    self.answers.push(context);
+                    Seen::Clash(state, stacks(arena, context), alternatives)
+                }
+                Ok(reason) => Seen::Because(reason),
+                Err(refusal) => Seen::Refused(refusal),
+            },
         })
     }
 
@@ -146,6 +159,11 @@ fn name(random: &mut Random) -> Name {
     if random.chance(20) { None } else { Some(random.below(9)) }
 }
 
+fn stops(random: &mut Random) -> Vec<u32> {
+    let length = if random.chance(5) { 65 } else { random.below(4) };
+    (0..length).map(|_| random.below(3) as u32).collect()
+}
+
 fn any_call(random: &mut Random) -> Call {
     let small = |random: &mut Random, bound| random.below(bound) as u32;
     match random.below(14) {
@@ -177,10 +195,8 @@ fn any_call(random: &mut Random) -> Call {
                 Call::Ask
             }
         }
-        _ => {
-            let length = if random.chance(5) { 65 } else { random.below(4) };
-            Call::Verdict((0..length).map(|_| small(random, 3)).collect())
-        }
+        13 if random.chance(50) => Call::Verdict(stops(random)),
+        _ => Call::Why(stops(random)),
     }
 }
 
@@ -206,4 +222,18 @@ fn as_if_alone() {
         }
     }
     assert!(contexts_that_differ > 10_000, "the readers' numbers hardly ever differ: nothing is shown");
+}
+
+/// Beside the first reader the second's clash is in context 2, and alone in 1.
+#[test]
+fn a_clash_is_seen_by_its_stacks() {
+    let add = |alt| Call::Add { context: Some(0), state: 5, alt, semantic: 0, reach: 0, provenance: 0 };
+    let (mut shared, mut store) = (ContextArena::new(), ContextArena::new());
+    let (mut first, mut second, mut alone) = (Reader::new(), Reader::new(), Reader::new());
+    first.call(&mut shared, &Call::Singleton(None, 7));
+    for call in [Call::Singleton(None, 8), add(1), add(2), Call::Why(vec![])] {
+        assert_eq!(second.call(&mut shared, &call), alone.call(&mut store, &call), "{call:?}");
+    }
+    assert_eq!(second.answers, [ContextId(2); 2], "its 8 over 0, and the clash's context");
+    assert_eq!(alone.answers, [ContextId(1); 2]);
 }
