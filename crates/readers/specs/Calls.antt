@@ -125,7 +125,7 @@ leaving g w v = record { got = g; store = w; set = v }
 abbrev pub named : Reader → Name → ℕ
 named R n = getD (R .names) n 0
 
--- what a call counts is left out: a reader makes fewer contexts, and merges less, where another has made them before
+-- how many contexts the call made is left out: fewer where another reader made them before (request A3); and how many merges it counted
 abbrev pub onStore : Reader → Left → Done
 onStore R x = leaving (told (x .reply)) (x .store) (R .set)
 

@@ -66,7 +66,7 @@ numbers-differ = (refl, refl)
 abbrev madeOver : Store → ℕ
 madeOver s = gives s (singleS s 0 7) .made
 
-figures-differ : (madeOver first ≡ 1) × (madeOver (after first beginner (singleton 0 7) .store) ≡ 0)
+pub figures-differ : (madeOver first ≡ 1) × (madeOver (after first beginner (singleton 0 7) .store) ≡ 0)
 unfolding stateAfter unless singleS place placeE intern listed find same tree treeOf fits pool room size length
 figures-differ = (refl, refl)
 
