@@ -43,9 +43,9 @@ typedef struct {
     uint32_t value;
 } purse_answer;
 
-/* A refusal's number; where that is 0, the value, how many merges the call counted: each that is neither of equal contexts nor answered from
-   the first 1,024 results of the call, and how many contexts it made: the store's count after the call less the count before, 0 where all were
-   found. More than 65,536 merges are refused; a refusal's other fields are 0. */
+/* A refusal's number; where that is 0: the value; how many merges the call counted, each that is neither of equal contexts nor answered from the
+   first 1,024 results of the call (more than 65,536 are refused); and how many contexts it made, the store's count after less the count before.
+   On a refusal the other fields are 0. */
 typedef struct {
     uint32_t refusal;
     uint32_t value;

@@ -6,9 +6,9 @@ use std::hint::black_box;
 use judge::layout::{RECORDS_AT, SCRATCH_WORDS, narrow};
 use judge::makers::{full_store, singletons_over_0};
 use judge::{Entry, Store};
-use pursecricket::{ContextId, Interned, ReturnState, raw};
+use pursecricket::{ContextId, ReturnState, raw};
 
-use crate::plain;
+use crate::plain::{self, Interned};
 use crate::rounds::best_of;
 
 /// A singleton on a store, and what both sides must say.
@@ -17,8 +17,8 @@ struct Case {
     store: Store,
     parent: u32,
     state: u32,
-    /// The number and how many contexts are made, or a refusal's number.
-    answer: Result<(u32, u32), u32>,
+    /// The singleton, or a refusal's number.
+    answer: Result<Interned, u32>,
 }
 
 /// The words that both sides are lent, in the same place.
@@ -52,16 +52,17 @@ fn cases() -> [Case; 5] {
     let (singletons, full) = (singletons_over_0(511), full_store(1));
     let (old, entry) = newest_singleton(&full);
     let fresh = Store::fresh();
+    let found = |context| Ok(Interned { context, made: 0 });
     [
-        case("a fresh store, made", &fresh, 0, 7, Ok((1, 1))),
-        case("511 singletons, found", &singletons, 0, 300, Ok((300, 0))),
+        case("a fresh store, made", &fresh, 0, 7, Ok(Interned { context: 1, made: 1 })),
+        case("511 singletons, found", &singletons, 0, 300, found(300)),
         case("511 singletons, refused 6", &singletons, 0, 512, Err(6)),
-        case("512 contexts and a full pool, found", &full, entry.parent, entry.state, Ok((old, 0))),
+        case("512 contexts and a full pool, found", &full, entry.parent, entry.state, found(old)),
         case("512 contexts and a full pool, refused 6", &full, 511, 1, Err(6)),
     ]
 }
 
-fn case(what: &'static str, store: &Store, parent: u32, state: u32, answer: Result<(u32, u32), u32>) -> Case {
+fn case(what: &'static str, store: &Store, parent: u32, state: u32, answer: Result<Interned, u32>) -> Case {
     Case { what, store: store.clone(), parent, state, answer }
 }
 
@@ -94,15 +95,15 @@ fn time(case: &Case) {
     report(case.what, best);
 }
 
-fn port_singleton(lent: &mut Lent, case: &Case) -> Result<(u32, u32), u32> {
+fn port_singleton(lent: &mut Lent, case: &Case) -> Result<Interned, u32> {
     let (parent, state) = (ContextId(black_box(case.parent)), ReturnState(black_box(case.state.into())));
     match raw::singleton(&mut lent.store, &mut lent.scratch, parent, state) {
-        Ok(Interned { context, made }) => Ok((context.0, made)),
+        Ok(interned) => Ok(Interned { context: interned.context.0, made: interned.made }),
         Err(refusal) => Err(refusal.number()),
     }
 }
 
-fn plain_singleton(lent: &mut Lent, case: &Case) -> Result<(u32, u32), u32> {
+fn plain_singleton(lent: &mut Lent, case: &Case) -> Result<Interned, u32> {
     let (parent, state) = (black_box(case.parent), black_box(case.state.into()));
     plain::singleton(&mut lent.store, &mut lent.scratch, parent, state)
 }

@@ -48,7 +48,8 @@ fn refusals() {
     assert_eq!(lines("singleton 1 7\nclose\nadd 1 1 0 0 0 0\n"), ["R 4", "K", "R 7"]);
 }
 
-/// Of each call the figure is what the store has more; those of a run add up to all contexts but context 0.
+/// A number that was not there before was made, and one that was there means that nothing was; the figures of
+/// a run add up to all contexts but context 0.
 #[test]
 fn figures_add_up() {
     let (mut found, mut many) = (0, 0);
@@ -58,9 +59,12 @@ fn figures_add_up() {
         let (mut machine, mut sum) = (Machine::new(), 0);
         for record in &split(&script, Kinds::All).0 {
             let before = machine.contexts();
-            if let Ok(Reply::Context { made, .. } | Reply::Added { made, .. }) = machine.call(record) {
+            let reply = machine.call(record);
+            if let Ok(Reply::Context { number, made }) = reply {
+                assert_eq!(number as usize >= before, made > 0, "{record:?}");
+            }
+            if let Ok(Reply::Context { made, .. } | Reply::Added { made, .. }) = reply {
                 sum += made as usize;
-                assert_eq!(machine.contexts(), before + made as usize, "{record:?}");
                 found += usize::from(made == 0);
                 many += usize::from(made > 1);
             }

@@ -94,11 +94,11 @@ fn keys_that_are_nearly_alike() {
             assert_eq!(outcome.reply, expected, "bit {bit} of word {offset}");
         }
     }
-    // Words that are no part of the key: context and reach.
+    // Words that are no part of the key: context and reach. The store has the union of 1 and 0, not of 1 and 2.
     let base = config(7, 1, 1);
-    for (other, merges) in [(config(7, 1, 0), 1), (Config { reach: 1 << 31, ..base }, 0)] {
+    let reach = Config { reach: 1 << 31, ..base };
+    for (other, merges, made) in [(config(7, 1, 0), 1, 0), (config(7, 1, 2), 1, 1), (reach, 0, 0)] {
         let outcome = add(&lent, &set_of(vec![base], true), other, &mut random);
-        let made = outcome.store[0] - lent.words()[0];
         assert_eq!(outcome.reply, Reply::Added { inserted: false, merges, made });
     }
 }

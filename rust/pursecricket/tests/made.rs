@@ -3,7 +3,7 @@
 use judge::random::Random;
 use pursecricket::{
     Added, Alternative, AtnConfig, AtnConfigSet, ContextArena, ContextId, EMPTY_CONTEXT, EMPTY_RETURN_STATE,
-    Refusal, ReturnState,
+    Interned, Refusal, ReturnState,
 };
 
 /// Contexts of an arena.
@@ -11,19 +11,21 @@ fn count(arena: &ContextArena) -> u32 {
     arena.words()[0]
 }
 
-fn singleton(arena: &mut ContextArena, parent: ContextId, state: u64) -> Result<(ContextId, u32), Refusal> {
-    arena.singleton(parent, ReturnState(state)).map(|interned| (interned.context, interned.made))
+fn singleton(arena: &mut ContextArena, parent: ContextId, state: u64) -> Result<Interned, Refusal> {
+    arena.singleton(parent, ReturnState(state))
 }
 
 /// What is beneath counts too; what is found again does not.
 #[test]
 fn found_or_made() -> Result<(), Refusal> {
     let mut arena = ContextArena::new();
-    let [(five, _), (six, _)] =
-        [singleton(&mut arena, EMPTY_CONTEXT, 5)?, singleton(&mut arena, EMPTY_CONTEXT, 6)?];
-    assert_eq!(singleton(&mut arena, EMPTY_CONTEXT, 5), Ok((five, 0)));
-    assert_eq!(singleton(&mut arena, five, EMPTY_RETURN_STATE.0), Ok((EMPTY_CONTEXT, 0)));
-    let (left, right) = (singleton(&mut arena, five, 7)?.0, singleton(&mut arena, six, 7)?.0);
+    let five = singleton(&mut arena, EMPTY_CONTEXT, 5)?.context;
+    let six = singleton(&mut arena, EMPTY_CONTEXT, 6)?.context;
+    assert_eq!(singleton(&mut arena, EMPTY_CONTEXT, 5), Ok(Interned { context: five, made: 0 }));
+    let empty = Interned { context: EMPTY_CONTEXT, made: 0 };
+    assert_eq!(singleton(&mut arena, five, EMPTY_RETURN_STATE.0), Ok(empty));
+    let left = singleton(&mut arena, five, 7)?.context;
+    let right = singleton(&mut arena, six, 7)?.context;
     assert_eq!(arena.merge(left, right, false)?.made, 2);
     assert_eq!(arena.merge(right, left, false)?.made, 0);
     assert_eq!(arena.merge(five, six, false)?.made, 0);
@@ -39,8 +41,8 @@ fn configs() -> Result<(), Refusal> {
     let mut arena = ContextArena::new();
     let mut set = AtnConfigSet::new_full_context(true);
     let tops = [5, 6].map(|state| {
-        let (below, _) = singleton(&mut arena, EMPTY_CONTEXT, state).expect("room");
-        singleton(&mut arena, below, 7).expect("room").0
+        let below = singleton(&mut arena, EMPTY_CONTEXT, state).expect("room").context;
+        singleton(&mut arena, below, 7).expect("room").context
     });
     let mut add = |context| set.add(AtnConfig::new(1, Alternative(1), context), &mut arena);
     assert_eq!(add(tops[0])?, Added { inserted: true, merges: 0, made: 0 });
@@ -55,10 +57,10 @@ fn configs() -> Result<(), Refusal> {
 fn refusals() -> Result<(), Refusal> {
     let mut arena = ContextArena::new();
     for state in 1..=508 {
-        assert_eq!(singleton(&mut arena, EMPTY_CONTEXT, state)?.1, 1);
+        assert_eq!(singleton(&mut arena, EMPTY_CONTEXT, state)?.made, 1);
     }
-    let (left, right) =
-        (singleton(&mut arena, ContextId(1), 7)?.0, singleton(&mut arena, ContextId(2), 7)?.0);
+    let left = singleton(&mut arena, ContextId(1), 7)?.context;
+    let right = singleton(&mut arena, ContextId(2), 7)?.context;
     assert_eq!(count(&arena), 511);
     assert_eq!(arena.merge(left, right, false), Err(Refusal::FullStore));
     assert_eq!(count(&arena), 511);
@@ -68,14 +70,24 @@ fn refusals() -> Result<(), Refusal> {
     Ok(())
 }
 
-/// Any call on contexts of the arena: how many contexts it made, 0 where it was refused.
+/// Any call on contexts of the arena: how many contexts it made, or its refusal. A number that was not there
+/// before was made, and one that was there means that nothing was.
 fn any_call(random: &mut Random, arena: &mut ContextArena, set: &mut AtnConfigSet) -> Result<u32, Refusal> {
-    let contexts = count(arena) as usize + 1;
-    let mut context = || ContextId(random.below(contexts) as u32);
+    let before = count(arena);
+    let mut context = || ContextId(random.below(before as usize + 1) as u32);
     let (one, other) = (context(), context());
     match random.below(3) {
-        0 => Ok(arena.singleton(one, ReturnState(random.pick(&[1, 2, 3, 4, u64::MAX - 1, u64::MAX])))?.made),
-        1 => Ok(arena.merge(one, other, random.chance(50))?.made),
+        0 => {
+            let state = random.pick(&[1, 2, 3, 4, u64::MAX - 1, u64::MAX]);
+            let interned = singleton(arena, one, state)?;
+            assert_eq!(interned.context.0 >= before, interned.made > 0, "of {before}: {interned:?}");
+            Ok(interned.made)
+        }
+        1 => {
+            let merged = arena.merge(one, other, random.chance(50))?;
+            assert_eq!(merged.context.0 >= before, merged.made > 0, "of {before}: {merged:?}");
+            Ok(merged.made)
+        }
         _ => {
             let config = AtnConfig::new(random.below(4) as u32, Alternative(random.below(2) as u32), one);
             Ok(set.add(config, arena)?.made)
@@ -83,7 +95,7 @@ fn any_call(random: &mut Random, arena: &mut ContextArena, set: &mut AtnConfigSe
     }
 }
 
-/// Of each call the figure is what the store has more; those of a run add up to all contexts but context 0.
+/// After each call the figures add up to all contexts but context 0; a refusal made none.
 #[test]
 fn figures_add_up() {
     let (mut found, mut many, mut refused) = (0, 0, 0);
@@ -93,16 +105,14 @@ fn figures_add_up() {
         let mut set = AtnConfigSet::new_full_context(seed % 2 == 0);
         let mut sum = 0;
         for step in 0..300 {
-            let before = count(&arena);
             let answer = any_call(&mut random, &mut arena, &mut set);
             let made = answer.unwrap_or(0);
             sum += made;
-            assert_eq!(count(&arena), before + made, "seed {seed}, step {step}");
+            assert_eq!(count(&arena), 1 + sum, "seed {seed}, step {step}");
             found += usize::from(answer == Ok(0));
             many += usize::from(made > 1);
             refused += usize::from(answer.is_err());
         }
-        assert_eq!(sum, count(&arena) - 1, "seed {seed}");
     }
     assert!(found > 1_000 && many > 300 && refused > 500, "{found} found, {many} many, {refused} refused");
 }

@@ -147,15 +147,15 @@ fn colliding_hashes() {
         assert_eq!(hash(&maker.store, left), hash(&maker.store, right), "{left} and {right}");
         // What stands over them then differs in a parent alone, and collides too.
         for state in [3, 4] {
-            let [one, other] = [left, right].map(|parent| {
-                let context = narrow(maker.store.count());
+            let next = narrow(maker.store.count());
+            for (context, parent) in (next..).zip([left, right]) {
                 let made = singleton(&maker.store, parent, state, &mut random);
                 assert_eq!(made, Reply::Interned { context, made: 1 });
                 maker.singleton(parent, state as u32);
-                context
-            });
-            assert_ne!(one, other);
-            assert_eq!(singleton(&maker.store, left, state, &mut random), found(one));
+            }
+            for (context, parent) in (next..).zip([left, right]) {
+                assert_eq!(singleton(&maker.store, parent, state, &mut random), found(context));
+            }
         }
     }
     for state in [1, 7, 515_144_035, 999_192_160] {

@@ -43,8 +43,7 @@ pub fn merge_indexed(
     if merged.is_err() {
         cut_back(store, count, pool);
     }
-    let (merges, made) = (merges(scratch), store[0] - count as u32);
-    merged.map(|context| Merged { context, merges, made })
+    merged.map(|context| Merged { context, merges: merges(scratch), made: store[0] - count as u32 })
 }
 
 fn cut_back(store: &mut Store, count: usize, pool: usize) {

@@ -28,9 +28,17 @@ const ARRAY: u32 = 2;
 /// The empty mark as stored.
 const DOLLAR: u32 = u32::MAX;
 
-/// A singleton's number, and how many contexts were made; or the number of a refusal.
+/// A singleton that was answered.
+#[derive(Clone, Copy, Debug, Eq, PartialEq)]
+pub struct Interned {
+    pub context: u32,
+    /// How many contexts were made.
+    pub made: u32,
+}
+
+/// A singleton, or the number of a refusal.
 #[inline(never)]
-pub fn singleton(store: &mut [u32], scratch: &mut [u32], parent: u32, state: u64) -> Result<(u32, u32), u32> {
+pub fn singleton(store: &mut [u32], scratch: &mut [u32], parent: u32, state: u64) -> Result<Interned, u32> {
     let Ok(store) = <&mut Store>::try_from(store) else {
         return Err(2);
     };
@@ -42,12 +50,7 @@ pub fn singleton(store: &mut [u32], scratch: &mut [u32], parent: u32, state: u64
     answer
 }
 
-fn singleton_in(
-    store: &mut Store,
-    scratch: &mut Scratch,
-    parent: u32,
-    state: u64,
-) -> Result<(u32, u32), u32> {
+fn singleton_in(store: &mut Store, scratch: &mut Scratch, parent: u32, state: u64) -> Result<Interned, u32> {
     if !check(store, scratch) {
         return Err(1);
     }
@@ -56,7 +59,7 @@ fn singleton_in(
         return Err(4);
     }
     if state == u64::MAX {
-        return Ok((0, 0));
+        return Ok(Interned { context: 0, made: 0 });
     }
     if state >= u64::from(DOLLAR) {
         return Err(5);
@@ -64,7 +67,7 @@ fn singleton_in(
     let state = state as u32;
     let hash = singleton_hash(hash_of(scratch, parent as usize), state);
     if let Some(known) = find(scratch, hash, |other| record(store, other) == [SINGLETON, parent, state]) {
-        return Ok((known as u32, 0));
+        return Ok(Interned { context: known as u32, made: 0 });
     }
     if count as usize == MOST_CONTEXTS {
         return Err(6);
@@ -72,7 +75,7 @@ fn singleton_in(
     let at = RECORDS + 3 * count as usize;
     store[at..at + 3].copy_from_slice(&[SINGLETON, parent, state]);
     store[0] = count + 1;
-    Ok((count, 1))
+    Ok(Interned { context: count, made: 1 })
 }
 
 /// A merge that was answered.

@@ -7,12 +7,12 @@ use judge::set_makers::{any_config, random_set};
 use judge::{Call, Config, Lent, LentSet, Reply, SetCall};
 
 use super::sets::Added;
-use super::{Merged, add, merge, singleton};
+use super::{Interned, Merged, add, merge, singleton};
 
 fn agree(words: Vec<u32>, scratch: &[u32], parent: u32, state: u64, what: &str) {
     let (mut store, mut after) = (words.clone(), scratch.to_vec());
     let reply = match singleton(&mut store, &mut after, parent, state) {
-        Ok((context, made)) => Reply::Interned { context, made },
+        Ok(Interned { context, made }) => Reply::Interned { context, made },
         Err(refusal) => Reply::Refused(refusal),
     };
     let judged = Lent::new(words).outcome(&Call::Singleton { parent, state }, scratch);

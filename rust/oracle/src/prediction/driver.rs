@@ -133,7 +133,8 @@ impl Machine {
     fn merge(&mut self, left: u32, right: u32, mode: Mode) -> Result<Reply, Refusal> {
         let left = self.known(left)?;
         let right = self.known(right)?;
-        let (wildcard, before) = (mode == Mode::Wildcard, self.contexts());
+        let wildcard = mode == Mode::Wildcard;
+        let before = self.contexts();
         let context = self.counting(left, right, wildcard, |machine| {
             let workspace = &mut machine.workspace;
             machine.arena.merge(left, right, wildcard, workspace)
@@ -178,7 +179,8 @@ impl Machine {
     fn join(&mut self, at: usize, config: AtnConfig) -> Result<Reply, Refusal> {
         let before = self.set.configs[at].clone();
         let flags = (self.set.has_semantic_context, self.set.dips_into_outer_context);
-        let (wildcard, contexts) = (!self.set.full_context, self.contexts());
+        let wildcard = !self.set.full_context;
+        let contexts = self.contexts();
         let merged = self.counting(before.context, config.context, wildcard, |machine| {
             let Machine { arena, set, workspace, .. } = machine;
             assert!(!set.add(config, arena, workspace), "the key is known");
@@ -294,8 +296,8 @@ impl Machine {
         Reply::Closed
     }
 
-    /// Contexts that the arena has more than before a call (request A3). The runtime has no such answer, so demand
-    /// 2 compares the other fields of a reply; this one is confirmed by the count of the arena's own records.
+    /// Contexts that the arena has more than before a call (request A3). The runs compare whole lines; demand 2 is
+    /// about the other fields, and this one is the oracle's own count of records, after less before.
     fn made_since(&self, before: usize) -> u32 {
         narrow(self.contexts() - before)
     }
