@@ -24,17 +24,17 @@ mergesCounted z = getD z 16337 0
 
 -- the word of the result at a place, and the link from it; the head of a bucket's chain
 unfoldable pub resultWord : List ℕ → ℕ → ℕ
-resultWord z i = getD z (1792 + i) 0
+resultWord z i = getD z (2048 + i) 0
 
 unfoldable pub resultLink : List ℕ → ℕ → ℕ
-resultLink z i = getD z (2816 + i) 0
+resultLink z i = getD z (3072 + i) 0
 
 unfoldable pub bucketHead : List ℕ → ℕ → ℕ
-bucketHead z b = getD z (3840 + b) 0
+bucketHead z b = getD z (4096 + b) 0
 
 -- the results kept, the newest first
 abbrev pub keptOf : List ℕ → List Result
-keptOf z = keptIn 1792 z (keptCount z)
+keptOf z = keptIn 2048 z (keptCount z)
 
 -- ---- keys and buckets
 
@@ -78,7 +78,7 @@ pub record Emptied (z u : List ℕ) : Type 0 where
   pub sound : CacheSound u
   pub kept : keptOf u ≡ []
   pub merges : mergesCounted u ≡ 0
-  pub others : (i : ℕ) → (1792 ≤ i → i < 7936 → ⊥) → i ≢ 16336 → i ≢ 16337 → getD u i 0 ≡ getD z i 0
+  pub others : (i : ℕ) → (2048 ≤ i → i < 7936 → ⊥) → i ≢ 16336 → i ≢ 16337 → getD u i 0 ≡ getD z i 0
 
 -- the result c of the merge of a and b is completed
 pub record Remembered (z : List ℕ) (m : Bool) (a b c : ℕ) (u : List ℕ) : Type 0 where
@@ -86,7 +86,7 @@ pub record Remembered (z : List ℕ) (m : Bool) (a b c : ℕ) (u : List ℕ) : T
   pub sound : CacheSound u
   pub kept : keptOf u ≡ keep (result m (min a b) (max a b) c) (keptOf z)
   pub merges : mergesCounted u ≡ mergesCounted z
-  pub others : (i : ℕ) → (1792 ≤ i → i < 7936 → ⊥) → i ≢ 16336 → getD u i 0 ≡ getD z i 0
+  pub others : (i : ℕ) → (2048 ≤ i → i < 7936 → ⊥) → i ≢ 16336 → getD u i 0 ≡ getD z i 0
 
 -- one merge more is counted, or the ceiling is reached
 abbrev pub Counts : List ℕ → Bool → List ℕ → Type 0
@@ -97,9 +97,9 @@ Counts z false u = (mostMerges ≤ mergesCounted z) × (u ≡ z)
 
 -- the heads and both counts 0
 unfoldable pub clearedCache : List ℕ → List ℕ
-clearedCache z = set (set (clearedRange z 3840 4864) 16336 0) 16337 0
+clearedCache z = set (set (clearedRange z 4096 5120) 16336 0) 16337 0
 
 -- a result with the key k at place i, in front of its bucket's chain
 unfoldable pub putResult : List ℕ → ℕ → ℕ → ℕ → List ℕ
 putResult z i k c =
-    set (set (set (set z (1792 + i) (k * 512 + c)) (2816 + i) (bucketHead z (bucketOf k))) (3840 + bucketOf k) (i + 1)) 16336 (i + 1)
+    set (set (set (set z (2048 + i) (k * 512 + c)) (3072 + i) (bucketHead z (bucketOf k))) (4096 + bucketOf k) (i + 1)) 16336 (i + 1)

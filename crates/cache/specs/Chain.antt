@@ -81,7 +81,7 @@ module _ (m : Bool) (a b x : ℕ) (k : List Result) where
 -- ---- results of other buckets are passed over
 
 pub skip : (z : List ℕ) (m : Bool) (a b n : ℕ) → ((i : ℕ) → i < n → resultWord z i < 268435456)
-    → recall m a b (keptIn 1792 z n) ≡ recall m a b (keptIn 1792 z (newest z n (bucketOf (keyOf m a b))))
+    → recall m a b (keptIn 2048 z n) ≡ recall m a b (keptIn 2048 z (newest z n (bucketOf (keyOf m a b))))
 unfolding keptIn newest resultWord
 skip z m a b zero small = refl
 skip z m a b (suc n) small =
@@ -89,5 +89,5 @@ skip z m a b (suc n) small =
     two (bucketAt z n) c
     (λ e. rw (newest-here z n c e))
     (λ d. rw (newest-older z n c d)
-    (word-past m a b (resultWord z n) (keptIn 1792 z n) (small n (omega arith)) (λ e. d (ap bucketOf e))
+    (word-past m a b (resultWord z n) (keptIn 2048 z n) (small n (omega arith)) (λ e. d (ap bucketOf e))
     ∙ skip z m a b n (λ i h. small i (omega arith))))

@@ -10,18 +10,18 @@ use Rattle.work.specs.KeptWords.{keptIn, kept-frame}
 use Rattle.cache.specs.Cache.{keptCount, mergesCounted, keptOf, resultWord, resultLink, bucketHead, bucketOf, bucketAt, newest, CacheSound}
 use Rattle.cache.specs.Chain.{newest-frame}
 
-module _ (z u : List ℕ) (same : (i : ℕ) → 1792 ≤ i → i < 7936 → getD u i 0 ≡ getD z i 0) (number : getD u 16336 0 ≡ getD z 16336 0) (v : CacheSound z) where
+module _ (z u : List ℕ) (same : (i : ℕ) → 2048 ≤ i → i < 7936 → getD u i 0 ≡ getD z i 0) (number : getD u 16336 0 ≡ getD z 16336 0) (v : CacheSound z) where
   count-same : keptCount u ≡ keptCount z
   unfolding keptCount
   count-same = number
 
   word-same : (i : ℕ) → i < keptCount z → resultWord u i ≡ resultWord z i
   unfolding resultWord
-  word-same i h = same (1792 + i) (omega arith) (omega (arith, v .few))
+  word-same i h = same (2048 + i) (omega arith) (omega (arith, v .few))
 
   pub kept-same : keptOf u ≡ keptOf z
   unfolding resultWord
-  kept-same = ap (keptIn 1792 u) count-same ∙ kept-frame 1792 z u (keptCount z) word-same
+  kept-same = ap (keptIn 2048 u) count-same ∙ kept-frame 2048 z u (keptCount z) word-same
 
   pub cache-frame : CacheSound u
   unfolding resultLink bucketHead
@@ -29,13 +29,13 @@ module _ (z u : List ℕ) (same : (i : ℕ) → 1792 ≤ i → i < 7936 → getD
     few = omega (arith, count-same, v .few);
     small = λ i h. let k : i < keptCount z = omega (arith, count-same) in rw (word-same i k) (v .small i k);
     heads = λ b h.
-        same (3840 + b) (omega arith) (omega arith)
+        same (4096 + b) (omega arith) (omega arith)
         ∙ v .heads b h
         ∙ sym (newest-frame z u (keptCount z) b word-same)
         ∙ ap (λ (n : ℕ). newest u n b) (sym count-same);
     links = λ i h.
         let k : i < keptCount z = omega (arith, count-same) in
-        same (2816 + i) (omega arith) (omega (arith, v .few))
+        same (3072 + i) (omega arith) (omega (arith, v .few))
         ∙ v .links i k
         ∙ sym (newest-frame z u i (bucketAt z i) (λ j l. word-same j (omega arith)))
         ∙ ap (λ (x : ℕ). newest u i (bucketOf (x / 512))) (sym (word-same i k));

@@ -30,14 +30,14 @@ module _ (z : List ℕ) (i k c : ℕ) (l : length z ≡ 16384) (h : i < 1024) wh
   unfolding putResult
   put-length = simp length-set
 
-  put-beside : (j : ℕ) → j ≢ 1792 + i → j ≢ 2816 + i → j ≢ 3840 + bucketOf k → j ≢ 16336 → getD (putResult z i k c) j 0 ≡ getD z j 0
+  put-beside : (j : ℕ) → j ≢ 2048 + i → j ≢ 3072 + i → j ≢ 4096 + bucketOf k → j ≢ 16336 → getD (putResult z i k c) j 0 ≡ getD z j 0
   unfolding putResult
   put-beside j p q r s = rw (getD-set-other, getD-set-other, getD-set-other, getD-set-other)
 
   put-count : keptCount (putResult z i k c) ≡ suc i
   unfolding keptCount putResult
   put-count =
-      let x : 16336 < length (set (set (set z (1792 + i) (k * 512 + c)) (2816 + i) (bucketHead z (bucketOf k))) (3840 + bucketOf k) (i + 1)) =
+      let x : 16336 < length (set (set (set z (2048 + i) (k * 512 + c)) (3072 + i) (bucketHead z (bucketOf k))) (4096 + bucketOf k) (i + 1)) =
       simp length-set (omega arith) in
       rw getD-set-same (omega arith)
 
@@ -45,41 +45,41 @@ module _ (z : List ℕ) (i k c : ℕ) (l : length z ≡ 16384) (h : i < 1024) wh
   unfolding bucketHead putResult
   put-head =
       let s = bucket-small k in
-      let o : 3840 + bucketOf k ≢ 16336 = omega arith in
-      let x : 3840 + bucketOf k < length (set (set z (1792 + i) (k * 512 + c)) (2816 + i) (bucketHead z (bucketOf k))) =
+      let o : 4096 + bucketOf k ≢ 16336 = omega arith in
+      let x : 4096 + bucketOf k < length (set (set z (2048 + i) (k * 512 + c)) (3072 + i) (bucketHead z (bucketOf k))) =
       simp length-set (omega arith) in
       rw (getD-set-other, getD-set-same) (omega arith)
 
   put-link : resultLink (putResult z i k c) i ≡ bucketHead z (bucketOf k)
   unfolding resultLink putResult
   put-link =
-      let o : 2816 + i ≢ 16336 = omega arith in
-      let p : 2816 + i ≢ 3840 + bucketOf k = omega arith in
-      let x : 2816 + i < length (set z (1792 + i) (k * 512 + c)) = simp length-set (omega arith) in
+      let o : 3072 + i ≢ 16336 = omega arith in
+      let p : 3072 + i ≢ 4096 + bucketOf k = omega arith in
+      let x : 3072 + i < length (set z (2048 + i) (k * 512 + c)) = simp length-set (omega arith) in
       rw (getD-set-other, getD-set-other, getD-set-same)
 
   put-word : resultWord (putResult z i k c) i ≡ k * 512 + c
   unfolding resultWord putResult
   put-word =
-      let o : 1792 + i ≢ 16336 = omega arith in
-      let p : 1792 + i ≢ 3840 + bucketOf k = omega arith in
-      let q : 1792 + i ≢ 2816 + i = omega arith in
-      let x : 1792 + i < length z = omega arith in
+      let o : 2048 + i ≢ 16336 = omega arith in
+      let p : 2048 + i ≢ 4096 + bucketOf k = omega arith in
+      let q : 2048 + i ≢ 3072 + i = omega arith in
+      let x : 2048 + i < length z = omega arith in
       rw (getD-set-other, getD-set-other, getD-set-other, getD-set-same)
 
   older-word : (j : ℕ) → j < i → resultWord (putResult z i k c) j ≡ resultWord z j
   unfolding resultWord
-  older-word j g = put-beside (1792 + j) (omega arith) (omega arith) (omega arith) (omega arith)
+  older-word j g = put-beside (2048 + j) (omega arith) (omega arith) (omega arith) (omega arith)
 
   older-link : (j : ℕ) → j < i → resultLink (putResult z i k c) j ≡ resultLink z j
   unfolding resultLink
-  older-link j g = put-beside (2816 + j) (omega arith) (omega arith) (omega arith) (omega arith)
+  older-link j g = put-beside (3072 + j) (omega arith) (omega arith) (omega arith) (omega arith)
 
   other-head : (b : ℕ) → b < 1024 → (b ≡ bucketOf k → ⊥) → bucketHead (putResult z i k c) b ≡ bucketHead z b
   unfolding bucketHead
-  other-head b g d = put-beside (3840 + b) (omega arith) (omega arith) (omega arith) (omega arith)
+  other-head b g d = put-beside (4096 + b) (omega arith) (omega arith) (omega arith) (omega arith)
 
-  put-others : (j : ℕ) → (1792 ≤ j → j < 7936 → ⊥) → j ≢ 16336 → getD (putResult z i k c) j 0 ≡ getD z j 0
+  put-others : (j : ℕ) → (2048 ≤ j → j < 7936 → ⊥) → j ≢ 16336 → getD (putResult z i k c) j 0 ≡ getD z j 0
   put-others j away p =
       let s = bucket-small k in
       put-beside j
@@ -146,8 +146,8 @@ module _ (z : List ℕ) (n k c : ℕ) (l : length z ≡ 16384) (v : CacheSound z
   unfolding keptIn resultWord
   put-kept =
       rw (put-count z n k c l h, e)
-      (ap (λ (x : ℕ). resultIn x ∷ keptIn 1792 u n) (put-word z n k c l h)
-      ∙ ap (λ (t : List Result). resultIn (k * 512 + c) ∷ t) (kept-frame 1792 z u n (λ i p. older-word z n k c l h i p)))
+      (ap (λ (x : ℕ). resultIn x ∷ keptIn 2048 u n) (put-word z n k c l h)
+      ∙ ap (λ (t : List Result). resultIn (k * 512 + c) ∷ t) (kept-frame 2048 z u n (λ i p. older-word z n k c l h i p)))
 
 -- ---- a result is completed
 
@@ -159,7 +159,7 @@ module _ (z : List ℕ) (m : Bool) (a b c : ℕ) (v : Asked z a b) (g : c < 512)
       let r : Result = result m (min a b) (max a b) c in
       let s = sides-small a b (v .left) (v .right) in
       let back : resultIn (k * 512 + c) ≡ r = ap (λ (x : ℕ). resultIn (x * 512 + c)) e ∙ read-back m (min a b) (max a b) c (s .0) (s .1) g in
-      let less : length (keptOf z) < 1024 = omega (arith, kept-length 1792 z n) in
+      let less : length (keptOf z) < 1024 = omega (arith, kept-length 2048 z n) in
       record {
         sized = put-length z n k c (v .sized) h;
         sound = put-sound z n k c (v .sized) (v .sound) refl h g small;
@@ -173,7 +173,7 @@ module _ (z : List ℕ) (m : Bool) (a b c : ℕ) (v : Asked z a b) (g : c < 512)
   none-remembered h = record {
     sized = refl;
     sound = v .sound;
-    kept = sym (keep-full (result m (min a b) (max a b) c) (keptOf z) (omega (arith, kept-length 1792 z (keptCount z))));
+    kept = sym (keep-full (result m (min a b) (max a b) c) (keptOf z) (omega (arith, kept-length 2048 z (keptCount z))));
     merges = refl;
     others = λ i p q. refl;
   }
@@ -181,38 +181,38 @@ module _ (z : List ℕ) (m : Bool) (a b c : ℕ) (v : Asked z a b) (g : c < 512)
 -- ---- the cache made empty
 
 module _ (z : List ℕ) (l : length z ≡ 16384) where
-  range-length : length (clearedRange z 3840 4864) ≡ length z
-  range-length = length-clearedRange z 3840 4864 (omega arith) (omega arith)
+  range-length : length (clearedRange z 4096 5120) ≡ length z
+  range-length = length-clearedRange z 4096 5120 (omega arith) (omega arith)
 
   cleared-count : keptCount (clearedCache z) ≡ 0
   unfolding keptCount clearedCache
   cleared-count =
       let o : _≢_ {A = ℕ} 16336 16337 = omega arith in
-      let x : 16336 < length (clearedRange z 3840 4864) = omega (arith, range-length) in
+      let x : 16336 < length (clearedRange z 4096 5120) = omega (arith, range-length) in
       rw (getD-set-other, getD-set-same)
 
   cleared-merges : mergesCounted (clearedCache z) ≡ 0
   unfolding mergesCounted clearedCache
   cleared-merges =
-      let x : 16337 < length (set (clearedRange z 3840 4864) 16336 0) = simp length-set (omega (arith, range-length)) in
+      let x : 16337 < length (set (clearedRange z 4096 5120) 16336 0) = simp length-set (omega (arith, range-length)) in
       rw getD-set-same
 
-  cleared-others : (i : ℕ) → (1792 ≤ i → i < 7936 → ⊥) → i ≢ 16336 → i ≢ 16337 → getD (clearedCache z) i 0 ≡ getD z i 0
+  cleared-others : (i : ℕ) → (2048 ≤ i → i < 7936 → ⊥) → i ≢ 16336 → i ≢ 16337 → getD (clearedCache z) i 0 ≡ getD z i 0
   unfolding clearedCache
   cleared-others i away p q =
       rw (getD-set-other, getD-set-other)
-      (below? i 3840
-      (λ h. clearedRange-before z 3840 4864 (omega arith) (omega arith) i h)
-      (λ h. below? i 4864
+      (below? i 4096
+      (λ h. clearedRange-before z 4096 5120 (omega arith) (omega arith) i h)
+      (λ h. below? i 5120
       (λ k. absurd (away (omega arith) (omega arith)))
-      (λ k. clearedRange-after z 3840 4864 (omega arith) (omega arith) i k)))
+      (λ k. clearedRange-after z 4096 5120 (omega arith) (omega arith) i k)))
 
   cleared-head : (b : ℕ) → b < 1024 → bucketHead (clearedCache z) b ≡ 0
   unfolding bucketHead clearedCache
   cleared-head b h =
-      let o : 3840 + b ≢ 16336 = omega arith in
-      let p : 3840 + b ≢ 16337 = omega arith in
-      rw (getD-set-other, getD-set-other) (clearedRange-inside z 3840 4864 (omega arith) (omega arith) (3840 + b) (omega arith) (omega arith))
+      let o : 4096 + b ≢ 16336 = omega arith in
+      let p : 4096 + b ≢ 16337 = omega arith in
+      rw (getD-set-other, getD-set-other) (clearedRange-inside z 4096 5120 (omega arith) (omega arith) (4096 + b) (omega arith) (omega arith))
 
   cleared-length : length (clearedCache z) ≡ length z
   unfolding clearedCache

@@ -15,7 +15,7 @@ pub record Going (z : List ℕ) (m : Bool) (a b k : ℕ) : Type 0 where
   pub under : ℕ
   pub within : under ≤ keptCount z
   pub leads : k ≡ newest z under (bucketOf (keyOf m a b))
-  pub same : recall m a b (keptOf z) ≡ recall m a b (keptIn 1792 z under)
+  pub same : recall m a b (keptOf z) ≡ recall m a b (keptIn 2048 z under)
 
 pub head-small : (z : List ℕ) → CacheSound z → (c : ℕ) → c < 1024 → bucketHead z c ≤ 1024
 head-small z v c h = omega (arith, v .few, v .heads c h, newest-le z (keptCount z) c)
@@ -30,8 +30,8 @@ module _ (z : List ℕ) (m : Bool) (a b : ℕ) (v : CacheSound z) where
   }
 
   module _ (k : ℕ) (g : Going z m a b k) where
-    here-same : recall m a b (keptOf z) ≡ recall m a b (keptIn 1792 z k)
-    here-same = g .same ∙ skip z m a b (g .under) (λ i h. v .small i (omega (arith, g .within))) ∙ ap (λ (n : ℕ). recall m a b (keptIn 1792 z n)) (sym (g .leads))
+    here-same : recall m a b (keptOf z) ≡ recall m a b (keptIn 2048 z k)
+    here-same = g .same ∙ skip z m a b (g .under) (λ i h. v .small i (omega (arith, g .within))) ∙ ap (λ (n : ℕ). recall m a b (keptIn 2048 z n)) (sym (g .leads))
 
     pub missing : k ≡ 0 → recall m a b (keptOf z) ≡ nowhere
     unfolding keptIn recall
@@ -44,12 +44,12 @@ module _ (z : List ℕ) (m : Bool) (a b : ℕ) (v : CacheSound z) where
       here : k - 1 < keptCount z
       here = omega (arith, g .within, newest-bucket z (g .under) (bucketOf (keyOf m a b)) (k - 1) (sym (g .leads) ∙ next) .0)
 
-      front : recall m a b (keptOf z) ≡ recall m a b (keptIn 1792 z (suc (k - 1)))
-      front = here-same ∙ ap (λ (n : ℕ). recall m a b (keptIn 1792 z n)) next
+      front : recall m a b (keptOf z) ≡ recall m a b (keptIn 2048 z (suc (k - 1)))
+      front = here-same ∙ ap (λ (n : ℕ). recall m a b (keptIn 2048 z n)) next
 
       pub hit : a < 512 → b < 512 → resultWord z (k - 1) / 512 ≡ keyOf m a b → recall m a b (keptOf z) ≡ at (resultWord z (k - 1) % 512)
       unfolding keptIn resultWord
-      hit h i e = front ∙ word-hit m a b (resultWord z (k - 1)) (keptIn 1792 z (k - 1)) h i e
+      hit h i e = front ∙ word-hit m a b (resultWord z (k - 1)) (keptIn 2048 z (k - 1)) h i e
 
       pub onward : (resultWord z (k - 1) / 512 ≡ keyOf m a b → ⊥) → Going z m a b (resultLink z (k - 1)) × (resultLink z (k - 1) < k)
       unfolding keptIn resultWord
@@ -62,7 +62,7 @@ module _ (z : List ℕ) (m : Bool) (a b : ℕ) (v : CacheSound z) where
               under = i;
               within = omega (arith, here);
               leads = there;
-              same = front ∙ word-past m a b (resultWord z i) (keptIn 1792 z i) (v .small i here) other;
+              same = front ∙ word-past m a b (resultWord z i) (keptIn 2048 z i) (v .small i here) other;
             },
             omega (arith, there, newest-le z i c),
           )

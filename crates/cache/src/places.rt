@@ -1,13 +1,13 @@
 // Where the cache stands in the scratch's 16,384 words, and its two ceilings.
 
 // A word for each result, in order of completion: kind, sides and context in 1, 9, 9 and 9 bits.
-pub const RESULTS: usize = 1792;
+pub const RESULTS: usize = 2048;
 
 // 1 + the place of the next older result of the same bucket, or 0.
-pub const LINKS: usize = 2816;
+pub const LINKS: usize = 3072;
 
 // 1 + the place of a bucket's newest result, or 0.
-pub const HEADS: usize = 3840;
+pub const HEADS: usize = 4096;
 
 pub const BUCKETS: usize = 1024;
 

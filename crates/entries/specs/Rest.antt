@@ -47,7 +47,7 @@ pub record Extended (z : List ℕ) (top : ℕ) (x : ℕ × Store) (d : ℕ) (w u
   pub number : d ≡ x .0
   pub store : storeOf w ≡ x .1
   pub live : Live w u
-  pub same : (e : ℕ) → 1792 ≤ e → e < 7936 + 2 * top → getD u e 0 ≡ getD z e 0
+  pub same : (e : ℕ) → 2048 ≤ e → e < 7936 + 2 * top → getD u e 0 ≡ getD z e 0
   pub after : (e : ℕ) → 16336 ≤ e → getD u e 0 ≡ getD z e 0
 
 abbrev pub Extends : List ℕ → List ℕ → ℕ → ℕ × Store → Interned → List ℕ → List ℕ → Type 0

@@ -13,16 +13,16 @@ use Rattle.grouping.specs.Leads.{FirstAlike, Next}
 use Rattle.grouping.specs.declared.inner.traits.Alike.{Alike}
 
 abbrev pub leadersAt : ℕ
-leadersAt = 2304
+leadersAt = 2560
 
 abbrev pub membersAt : ℕ
-membersAt = 2560
+membersAt = 2816
 
 abbrev pub marksAt : ℕ
-marksAt = 2816
+marksAt = 3072
 
 abbrev pub marksEnd : ℕ
-marksEnd = 3072
+marksEnd = 3328
 
 -- a set's words, and a scratch
 pub record Lent (v z : List ℕ) : Type 0 where

@@ -21,11 +21,11 @@ use Rattle.index.specs.Writes.{putEntry, putIndex}
 
 -- ---- no contexts
 
-pub index-empty : (z : List ℕ) → length z ≡ scratchWords → Indexed [] (clearedRange z 0 256)
+pub index-empty : (z : List ℕ) → length z ≡ scratchWords → Indexed [] (clearedRange z 0 512)
 unfolding head newest
 index-empty z l = record {
-  sized = length-clearedRange z 0 256 (omega arith) (omega arith) ∙ l;
-  heads = λ b h. clearedRange-inside z 0 256 (omega arith) (omega arith) b (omega arith) h;
+  sized = length-clearedRange z 0 512 (omega arith) (omega arith) ∙ l;
+  heads = λ b h. clearedRange-inside z 0 512 (omega arith) (omega arith) b (omega arith) h;
   links = λ c h. absurd (omega arith);
   lows = λ c h. absurd (omega arith);
   highs = λ c h. absurd (omega arith);
@@ -33,14 +33,14 @@ index-empty z l = record {
 
 -- ---- words below the stack are as they were
 
-pub index-frame : (s : Store) (z u : List ℕ) → length s ≤ 512 → length u ≡ scratchWords → ((i : ℕ) → i < 1792 → getD u i 0 ≡ getD z i 0) → Indexed s z → Indexed s u
+pub index-frame : (s : Store) (z u : List ℕ) → length s ≤ 512 → length u ≡ scratchWords → ((i : ℕ) → i < 2048 → getD u i 0 ≡ getD z i 0) → Indexed s z → Indexed s u
 unfolding head link low high
 index-frame s z u k l same v = record {
   sized = l;
   heads = λ b h. same b (omega arith) ∙ v .heads b h;
-  links = λ c h. same (256 + c) (omega arith) ∙ v .links c h;
-  lows = λ c h. same (768 + c) (omega arith) ∙ v .lows c h;
-  highs = λ c h. same (1280 + c) (omega arith) ∙ v .highs c h;
+  links = λ c h. same (512 + c) (omega arith) ∙ v .links c h;
+  lows = λ c h. same (1024 + c) (omega arith) ∙ v .lows c h;
+  highs = λ c h. same (1536 + c) (omega arith) ∙ v .highs c h;
 }
 
 module _ (z : List ℕ) (e p r : ℕ) where
@@ -86,9 +86,9 @@ module _ (z : List ℕ) (e p r : ℕ) where
 
 -- ---- one context more
 
-module _ (z : List ℕ) (c h : ℕ) (l : length z ≡ scratchWords) (k : c < 512) (b : bucketOf h < 256) where
+module _ (z : List ℕ) (c h : ℕ) (l : length z ≡ scratchWords) (k : c < 512) (b : bucketOf h < 512) where
   one : List ℕ
-  one = set z (256 + c) (head z (bucketOf h))
+  one = set z (512 + c) (head z (bucketOf h))
 
   two-set : List ℕ
   unfolding one
@@ -96,71 +96,71 @@ module _ (z : List ℕ) (c h : ℕ) (l : length z ≡ scratchWords) (k : c < 512
 
   three-set : List ℕ
   unfolding two-set
-  three-set = set two-set (768 + c) (h % 2 ^ 32)
+  three-set = set two-set (1024 + c) (h % 2 ^ 32)
 
   pub put-length : length (putIndex z c h) ≡ length z
   unfolding putIndex
   put-length = simp length-set
 
   -- a word that is none of the four
-  pub put-other : (i : ℕ) → i ≢ 256 + c → i ≢ bucketOf h → i ≢ 768 + c → i ≢ 1280 + c → getD (putIndex z c h) i 0 ≡ getD z i 0
+  pub put-other : (i : ℕ) → i ≢ 512 + c → i ≢ bucketOf h → i ≢ 1024 + c → i ≢ 1536 + c → getD (putIndex z c h) i 0 ≡ getD z i 0
   unfolding putIndex
   put-other i p q r s = rw (getD-set-other, getD-set-other, getD-set-other, getD-set-other)
 
   put-high : high (putIndex z c h) c ≡ h / 2 ^ 32
   unfolding putIndex high three-set
-  put-high = let i : 1280 + c < length three-set = simp length-set (omega arith) in rw getD-set-same
+  put-high = let i : 1536 + c < length three-set = simp length-set (omega arith) in rw getD-set-same
 
   put-low : low (putIndex z c h) c ≡ h % 2 ^ 32
   unfolding putIndex low two-set
   put-low =
-      let n : 768 + c ≢ 1280 + c = omega arith in
-      let i : 768 + c < length two-set = simp length-set (omega arith) in
+      let n : 1024 + c ≢ 1536 + c = omega arith in
+      let i : 1024 + c < length two-set = simp length-set (omega arith) in
       rw (getD-set-other, getD-set-same)
 
   put-head : head (putIndex z c h) (bucketOf h) ≡ c + 1
   unfolding putIndex head one
   put-head =
-      let n : bucketOf h ≢ 1280 + c = omega arith in
-      let m : bucketOf h ≢ 768 + c = omega arith in
+      let n : bucketOf h ≢ 1536 + c = omega arith in
+      let m : bucketOf h ≢ 1024 + c = omega arith in
       let i : bucketOf h < length one = simp length-set (omega arith) in
       rw (getD-set-other, getD-set-other, getD-set-same)
 
   put-link : link (putIndex z c h) c ≡ head z (bucketOf h)
   unfolding putIndex link
   put-link =
-      let n : 256 + c ≢ 1280 + c = omega arith in
-      let m : 256 + c ≢ 768 + c = omega arith in
-      let o : 256 + c ≢ bucketOf h = omega arith in
-      let i : 256 + c < length z = omega arith in
+      let n : 512 + c ≢ 1536 + c = omega arith in
+      let m : 512 + c ≢ 1024 + c = omega arith in
+      let o : 512 + c ≢ bucketOf h = omega arith in
+      let i : 512 + c < length z = omega arith in
       rw (getD-set-other, getD-set-other, getD-set-other, getD-set-same)
 
   -- the words of other contexts and other chains are as they were
   module _ (d : ℕ) where
-    other-head : (d ≡ bucketOf h → ⊥) → d < 256 → head (putIndex z c h) d ≡ head z d
+    other-head : (d ≡ bucketOf h → ⊥) → d < 512 → head (putIndex z c h) d ≡ head z d
     unfolding head
     other-head j i = put-other d (omega arith) j (omega arith) (omega arith)
 
     other-link : d < c → link (putIndex z c h) d ≡ link z d
     unfolding link
-    other-link i = put-other (256 + d) (omega arith) (omega arith) (omega arith) (omega arith)
+    other-link i = put-other (512 + d) (omega arith) (omega arith) (omega arith) (omega arith)
 
     other-low : d < c → low (putIndex z c h) d ≡ low z d
     unfolding low
-    other-low i = put-other (768 + d) (omega arith) (omega arith) (omega arith) (omega arith)
+    other-low i = put-other (1024 + d) (omega arith) (omega arith) (omega arith) (omega arith)
 
     other-high : d < c → high (putIndex z c h) d ≡ high z d
     unfolding high
-    other-high i = put-other (1280 + d) (omega arith) (omega arith) (omega arith) (omega arith)
+    other-high i = put-other (1536 + d) (omega arith) (omega arith) (omega arith) (omega arith)
 
-pub bucket-small : (h : ℕ) → h < 2 ^ 64 → bucketOf h < 256
+pub bucket-small : (h : ℕ) → h < 2 ^ 64 → bucketOf h < 512
 unfolding bucketOf
 bucket-small h k = omega arith
 
 pub index-add : (s : Store) (n : Node) (z : List ℕ) (h : ℕ) → length s < 512 → h ≡ nodeHash (hash s) n → Indexed s z → Indexed (n ∷ s) (putIndex z (length s) h)
 index-add s n z h k e v =
     let c : ℕ = length s in
-    let b : bucketOf h < 256 = bucket-small h (rw e (nodeHash-below (hash s) n)) in
+    let b : bucketOf h < 512 = bucket-small h (rw e (nodeHash-below (hash s) n)) in
     let l = v .sized in
     let at : hash (n ∷ s) c ≡ h = hash-new n s c refl ∙ sym e in
     record {

@@ -38,9 +38,9 @@ unfoldable pub hash : Store → ℕ → ℕ
 hash [] c = 0
 hash (n ∷ s) c = elim (eqb c (length s)) [ true ↦ nodeHash (hash s) n | false ↦ hash s c ]
 
--- its bucket: the top 8 bits
+-- its bucket: the top 9 bits
 unfoldable pub bucketOf : ℕ → ℕ
-bucketOf h = h / 2 ^ 56
+bucketOf h = h / 2 ^ 55
 
 -- ---- laws
 

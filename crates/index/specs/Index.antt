@@ -14,7 +14,7 @@ use Rattle.index.specs.Chain.{newest}
 
 pub record Indexed (s : Store) (z : List ℕ) : Type 0 where
   pub sized : length z ≡ scratchWords
-  pub heads : (b : ℕ) → b < 256 → head z b ≡ newest s b
+  pub heads : (b : ℕ) → b < 512 → head z b ≡ newest s b
   pub links : (c : ℕ) → c < length s → link z c ≡ newest (older s c) (bucketOf (hash s c))
   pub lows : (c : ℕ) → c < length s → low z c ≡ hash s c % 2 ^ 32
   pub highs : (c : ℕ) → c < length s → high z c ≡ hash s c / 2 ^ 32

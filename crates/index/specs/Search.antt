@@ -23,7 +23,7 @@ module _ (w z : List ℕ) (count place n h : ℕ) (v : Sought w z count place n 
   bucket-is : bucketOf h ≡ bucketOf (nodeHash (hash (storeIn w count)) (stackNode z place n))
   bucket-is = ap bucketOf (v .hashed)
 
-  pub begin : (b : ℕ) → b ≡ bucketOf h → b < 256 → Going (getD z b 0)
+  pub begin : (b : ℕ) → b ≡ bucketOf h → b < 512 → Going (getD z b 0)
   unfolding head
   begin b e l =
       let s = storeIn w count in

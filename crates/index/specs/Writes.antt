@@ -14,7 +14,7 @@ putEntry z e p r = set (set z (7936 + 2 * e) p) (7936 + 2 * e + 1) r
 -- context c with the hash h, in front of its bucket's chain
 unfoldable pub putIndex : List ℕ → ℕ → ℕ → List ℕ
 putIndex z c h =
-    set (set (set (set z (256 + c) (head z (bucketOf h))) (bucketOf h) (c + 1)) (768 + c) (h % 2 ^ 32)) (1280 + c) (h / 2 ^ 32)
+    set (set (set (set z (512 + c) (head z (bucketOf h))) (bucketOf h) (c + 1)) (1024 + c) (h % 2 ^ 32)) (1536 + c) (h / 2 ^ 32)
 
 -- n pool entries from `from` on, copied to the stack from place `at` on; nothing below them is touched
 pub record Loaded (w z : List ℕ) (from n at : ℕ) (u : List ℕ) : Type 0 where

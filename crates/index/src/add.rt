@@ -27,7 +27,7 @@ pub fn add_to_index(scratch: &mut [u32], context: usize, hash: u64)
 // Makes every chain empty.
 pub fn clear_heads(scratch: &mut [u32])
     requires { ⌜ length (now scratch) ≡ scratchWords ⌝ }
-    ensures { λ _. ⌜ now (scratch .exit) ≡ clearedRange (now (scratch .entry)) 0 256 ⌝ }
+    ensures { λ _. ⌜ now (scratch .exit) ≡ clearedRange (now (scratch .entry)) 0 512 ⌝ }
 {
     words::clear_range(scratch, HEADS, BUCKETS);
 }

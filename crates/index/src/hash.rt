@@ -13,11 +13,11 @@ ghost use Rattle.index.specs.Hash.{bucketOf, nodeHash, parentWords, stat
 ghost use Rattle.index.specs.Records.{Stacked, hashIn, stackNode};
 ghost use Rattle.layout.specs.Layout.{mostContexts, scratchWords};
 
-// The bucket of a hash: its top 8 bits.
+// The bucket of a hash: its top 9 bits.
 pub fn bucket(hash: u64) -> usize
-    ensures { λ r. ⌜ (r ≡ bucketOf hash) × (r < 256) ⌝ }
+    ensures { λ r. ⌜ (r ≡ bucketOf hash) × (r < 512) ⌝ }
 {
-    (hash / 0x100_0000_0000_0000) as usize
+    (hash / 0x80_0000_0000_0000) as usize
 }
 
 // The hash that the index holds of a context.

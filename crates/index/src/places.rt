@@ -2,12 +2,12 @@
 
 pub const HEADS: usize = 0;
 
-pub const BUCKETS: usize = 256;
+pub const BUCKETS: usize = 512;
 
-pub const LINKS: usize = 256;
+pub const LINKS: usize = 512;
 
-pub const LOWS: usize = 768;
+pub const LOWS: usize = 1024;
 
-pub const HIGHS: usize = 1280;
+pub const HIGHS: usize = 1536;
 
 pub const STACK: usize = 7936;

@@ -31,7 +31,7 @@ pub record Pushed (w z : List ℕ) (at n : ℕ) : Type 0 where
 
 -- above the index the scratch is as it was
 abbrev pub SameAbove : List ℕ → List ℕ → Type 0
-SameAbove z u = (i : ℕ) → 1792 ≤ i → getD u i 0 ≡ getD z i 0
+SameAbove z u = (i : ℕ) → 2048 ≤ i → getD u i 0 ≡ getD z i 0
 
 -- the call has grown the store to x: its number, its words, its index
 pub record GrewTo (z u : List ℕ) (w : List ℕ) (x : ℕ × Store) (c : ℕ) : Type 0 where

@@ -139,7 +139,7 @@ module _ {w z : List ℕ} {place n h : ℕ} (v : Missing w z place n h) where
       index-above : (u : List ℕ) → u ≡ putIndex z (count w) h → Fits (stackNode z place n ∷ storeOf w) → SameAbove z u
       index-above u eu f j l =
           let c : count w ≡ length (storeOf w) = live-count (v .pushed .live) in
-          let b : bucketOf h < 256 = bucket-small h (rw (v .hashed) (nodeHash-below (hash (storeOf w)) (stackNode z place n))) in
+          let b : bucketOf h < 512 = bucket-small h (rw (v .hashed) (nodeHash-below (hash (storeOf w)) (stackNode z place n))) in
           let k : count w < 512 = omega (arith, f .0) in
           ap (λ (x : List ℕ). getD x j 0) eu ∙ put-other z (count w) h (v .pushed .stacked .sized) k b j (omega arith) (omega arith) (omega arith) (omega arith)
 

@@ -9,13 +9,13 @@ head z b = getD z b 0
 
 -- number + 1 of the next older context of the same bucket
 unfoldable pub link : List ℕ → ℕ → ℕ
-link z c = getD z (256 + c) 0
+link z c = getD z (512 + c) 0
 
 unfoldable pub low : List ℕ → ℕ → ℕ
-low z c = getD z (768 + c) 0
+low z c = getD z (1024 + c) 0
 
 unfoldable pub high : List ℕ → ℕ → ℕ
-high z c = getD z (1280 + c) 0
+high z c = getD z (1536 + c) 0
 
 -- the stack's entries, 4,200 of them
 unfoldable pub stackParent : List ℕ → ℕ → ℕ

@@ -31,7 +31,7 @@ use Rattle.cache.specs.declared.lookup.Recall.the-variants.{As, Unknown}
 use Rattle.merging.specs.Standing.{stateOf, walked, Mergeable, Apart, Reached, Stuck, Swallows}
 
 -- the index and the stack are as they were
-index-kept : (w z u : List ℕ) → length u ≡ scratchWords → ((i : ℕ) → i < 1792 → getD u i 0 ≡ getD z i 0) → Live w z → Live w u
+index-kept : (w z u : List ℕ) → length u ≡ scratchWords → ((i : ℕ) → i < 2048 → getD u i 0 ≡ getD z i 0) → Live w z → Live w u
 index-kept w z u l same v = record { good = v .good; words = v .words; index = index-frame (storeOf w) z u (v .good .fits .0) l same (v .index) }
 
 -- what was walked to is a context of the store

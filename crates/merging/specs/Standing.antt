@@ -90,7 +90,7 @@ swallows-if m a b e n = go (eqb b 0) refl
 
 -- the cache and the counts are as they were
 pub record SameCache (z u : List ℕ) : Type 0 where
-  pub inside : (i : ℕ) → 1792 ≤ i → i < 7936 → getD u i 0 ≡ getD z i 0
+  pub inside : (i : ℕ) → 2048 ≤ i → i < 7936 → getD u i 0 ≡ getD z i 0
   pub after : (i : ℕ) → 16336 ≤ i → getD u i 0 ≡ getD z i 0
 
 pub state-moved : (w z u : List ℕ) → SameCache z u → CacheSound z → stateOf w u ≡ stateOf w z

@@ -18,10 +18,10 @@ use Rattle.setcheck.specs.declared.inner.keys.KeyPlace.the-variants.{At,
 
 -- where heads and links stand: in the place of the merge cache
 abbrev pub keyHeads : ℕ
-keyHeads = 1792
+keyHeads = 2048
 
 abbrev pub keyLinks : ℕ
-keyLinks = 2048
+keyLinks = 2304
 
 -- 16,384 words hold the chains too: between the store's index and the entry stack
 pub chains-fit : (keyHeads + 256 ≤ keyLinks) × (keyLinks + mostConfigs ≤ scratchWords)

@@ -30,7 +30,7 @@ use Rattle.recordcheck.specs.Judge.{good-single, good-array}
 -- ---- record 0
 
 pub root-passed : (w z : List ℕ) (h : ℕ) → length w ≡ storeWords → length z ≡ scratchWords → Root w → h ≡ hashOf emptyWords
-    → Passed w (putIndex (clearedRange z 0 256) 0 h) 1 0
+    → Passed w (putIndex (clearedRange z 0 512) 0 h) 1 0
 unfolding storeIn lengths nodeHash find
 root-passed w z h lw lz r e =
     let n : nodeIn w 0 ≡ dollar = node-zero w 0 (r .0) in
@@ -44,7 +44,7 @@ root-passed w z h lw lz r e =
         entries = λ i l k. let q : i ≡ 0 = omega arith in absurd (omega (arith, rw q at k, r .0));
         sound = rw n (tt, tt, refl, tt);
       };
-      index = rw n (index-add [] dollar (clearedRange z 0 256) h (omega arith) e (index-empty z lz));
+      index = rw n (index-add [] dollar (clearedRange z 0 512) h (omega arith) e (index-empty z lz));
       some = omega arith;
       root = r .0;
       filled = sym (lengths-zero w 0 (r .0));

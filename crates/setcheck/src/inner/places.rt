@@ -38,6 +38,6 @@ pub const DECIDED_FLAGS: u32 = 6;
 pub const FLAGS_END: u32 = 16;
 
 // Heads and links of the chains.
-pub const KEY_HEADS: usize = 1792;
+pub const KEY_HEADS: usize = 2048;
 
-pub const KEY_LINKS: usize = 2048;
+pub const KEY_LINKS: usize = 2304;

@@ -2,7 +2,7 @@
 
 use super::{MOST_CONTEXTS, Scratch};
 
-const BUCKETS: usize = 256;
+const BUCKETS: usize = 512;
 /// Number + 1 of the next older context of the same bucket.
 const LINKS: usize = BUCKETS;
 /// Low halves of the hashes, then high halves.
@@ -59,5 +59,5 @@ pub fn find(scratch: &Scratch, hash: u64, same: impl Fn(usize) -> bool) -> Optio
 }
 
 fn bucket(hash: u64) -> usize {
-    (hash >> 56) as usize
+    (hash >> 55) as usize
 }

@@ -8,7 +8,7 @@ const MOST_MERGES: u32 = 65_536;
 const BUCKETS: usize = 1_024;
 
 /// After the index: words that hold both sides and the result, links to older results, heads of chains.
-const RESULTS: usize = 1_792;
+const RESULTS: usize = 2_048;
 const LINKS: usize = RESULTS + MOST_RESULTS;
 const HEADS: usize = LINKS + MOST_RESULTS;
 /// After the entry stack.

@@ -21,7 +21,7 @@ const MARK: u32 = 1 << 31;
 
 /// Chains of keys, after the index; a merge takes their place.
 const BUCKETS: usize = 256;
-const HEADS: usize = 1_792;
+const HEADS: usize = 2_048;
 const LINKS: usize = HEADS + BUCKETS;
 
 /// A config that was added.

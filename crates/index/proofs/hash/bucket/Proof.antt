@@ -1,4 +1,4 @@
--- The bucket is a quotient, below 256 since a hash is of 64 bits.
+-- The bucket is a quotient, below 512 since a hash is of 64 bits.
 use mathlib.Core.Path.{refl}
 use native.Mathlib.Omega.{arith}
 use Rattle.index.specs.Hash.{bucketOf}

@@ -38,7 +38,7 @@ shared-slice-read-leader c =
     omega (arith, c .before .loop-test .taken, config-count .ensures, pre .words .few, pre .words .lent)
 
 cast-leader : tie.Need-cast-leader Inv-loop μ-loop
-cast-leader c = omega (arith, c .shared-slice-known3 .given (2304 + c .before .before .loop .place))
+cast-leader c = omega (arith, c .shared-slice-known3 .given (2560 + c .before .before .loop .place))
 
 alternative-of-requires : tie.Need-alternative-of-requires Inv-loop μ-loop
 alternative-of-requires c κs =

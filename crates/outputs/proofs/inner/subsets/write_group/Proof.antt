@@ -12,7 +12,7 @@ use Rattle.outputs.proofs.inner.subsets.write_group.Tie as tie
 cast-if1 : tie.Need-cast-if1
 cast-if1 c =
     let args = c .before .before .before .before .args in
-    omega (arith, c .shared-slice-known3 .given (2304 + args .place))
+    omega (arith, c .shared-slice-known3 .given (2560 + args .place))
 
 returns : tie.Need-returns
 returns c =

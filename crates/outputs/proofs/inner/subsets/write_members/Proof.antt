@@ -63,7 +63,7 @@ shared-slice-read-next c =
 cast-next : tie.Need-cast-next Inv-loop μ-loop
 cast-next c =
     let loop = c .before .before .before .before .before .before .before .loop in
-    omega (arith, c .shared-slice-known3 .given (2560 + (loop .next - 1)))
+    omega (arith, c .shared-slice-known3 .given (2816 + (loop .next - 1)))
 
 loop-less : tie.Need-loop-less Inv-loop μ-loop
 loop-less c =
