@@ -58,13 +58,13 @@ module _ (w z : List ℕ) (c : ℕ) (w′ : List ℕ) where
 
 -- "`C` and `A` lines get this figure as a last field"; a refusal's line has its number alone
 module _ (l : Lent) where
-  pub singleton-line : (p r : ℕ) → callOf l (singleton p r) .reply ≡ lineOf [] (madeBy l (singleton p r)) (singletonCall (l .store) (l .scratch) p r .reply)
+  pub singleton-line : (p r : ℕ) → let call = callOf l (singleton p r) in call .reply ≡ lineOf [] (madeBy l call) (singletonCall (l .store) (l .scratch) p r .reply)
   singleton-line = singleton-prints l
 
-  pub merge-line : (a b : ℕ) (m : Bool) → callOf l (merge a b m) .reply ≡ lineOf [] (madeBy l (merge a b m)) (mergeCall (l .store) (l .scratch) a b m .reply)
+  pub merge-line : (a b : ℕ) (m : Bool) → let call = callOf l (merge a b m) in call .reply ≡ lineOf [] (madeBy l call) (mergeCall (l .store) (l .scratch) a b m .reply)
   merge-line = merge-prints l
 
-  pub addition-line : (x : Config) → callOf l (add x) .reply ≡ setLineOf [] (madeBy l (add x)) (addCall (l .store) (l .set) (l .scratch) x .reply)
+  pub addition-line : (x : Config) → let call = callOf l (add x) in call .reply ≡ setLineOf [] (madeBy l call) (addCall (l .store) (l .set) (l .scratch) x .reply)
   addition-line = add-prints l
 
 -- the sum of these figures over a script is the count of `T`'s line less 1: context 0 is there from the start

@@ -2,7 +2,7 @@
 use mathlib.Core.Path.{_≡_, refl, ap}
 use mathlib.Core.Bool.{Bool}
 use mathlib.Core.List.{List, []}
-use Prim.Native.Nat.{ℕ, zero, suc, _+_}
+use Prim.Native.Nat.{ℕ, zero, suc, _+_, _-_, _≤_}
 use native.Mathlib.Omega.{arith}
 use lib.ListN.{length}
 use borrow.Author.Tests.{lt-ltb, le-ltb}
@@ -25,24 +25,33 @@ use Rattle.lines.specs.Lines.{numbersLine, endLine}
 use Rattle.replies.specs.Replies.{Lent, lineOf, setLineOf, newSetCall, callOf}
 use Rattle.steps.specs.Steps.{mostBytes, fresh, goes, over, readingStep, stepOf, runFrom, runOf}
 use Rattle.steps.specs.Steps.Laws.{after?, run-over, run-next}
-use Rattle.steps.specs.ContextsMade.{madeBy, madeAt, sumFrom, sumOf}
+use Rattle.steps.specs.ContextsMade.{madeBy, sumFrom, sumOf}
 
 module _ (l : Lent) where
-  -- ---- what is printed: on a refusal's line the figure does not stand
+  -- ---- what is printed is what was made: on a refusal's line the figure does not stand
 
-  pub singleton-prints : (p r : ℕ) → callOf l (singleton p r) .reply ≡ lineOf [] (madeBy l (singleton p r)) (singletonCall (l .store) (l .scratch) p r .reply)
-  unfolding callOf madeBy
-  singleton-prints p r = refl
+  pub singleton-prints : (p r : ℕ) → let call = callOf l (singleton p r) in call .reply ≡ lineOf [] (madeBy l call) (singletonCall (l .store) (l .scratch) p r .reply)
+  unfolding callOf
+  singleton-prints p r =
+      let x = singletonCall (l .store) (l .scratch) p r in
+      let e : x .made ≡ contexts (x .store) - contexts (l .store) = omega (arith, singleton-figure (l .store) (l .scratch) p r) in
+      ap (λ (k : ℕ). lineOf [] k (x .reply)) e
 
-  pub merge-prints : (a b : ℕ) (m : Bool) → callOf l (merge a b m) .reply ≡ lineOf [] (madeBy l (merge a b m)) (mergeCall (l .store) (l .scratch) a b m .reply)
-  unfolding callOf madeBy
-  merge-prints a b m = refl
+  pub merge-prints : (a b : ℕ) (m : Bool) → let call = callOf l (merge a b m) in call .reply ≡ lineOf [] (madeBy l call) (mergeCall (l .store) (l .scratch) a b m .reply)
+  unfolding callOf
+  merge-prints a b m =
+      let x = mergeCall (l .store) (l .scratch) a b m in
+      let e : x .made ≡ contexts (x .store) - contexts (l .store) = omega (arith, merge-figure (l .store) (l .scratch) a b m) in
+      ap (λ (k : ℕ). lineOf [] k (x .reply)) e
 
-  pub add-prints : (x : Config) → callOf l (add x) .reply ≡ setLineOf [] (madeBy l (add x)) (addCall (l .store) (l .set) (l .scratch) x .reply)
-  unfolding callOf madeBy
-  add-prints x = refl
+  pub add-prints : (x : Config) → let call = callOf l (add x) in call .reply ≡ setLineOf [] (madeBy l call) (addCall (l .store) (l .set) (l .scratch) x .reply)
+  unfolding callOf
+  add-prints x =
+      let y = addCall (l .store) (l .set) (l .scratch) x in
+      let e : y .made ≡ contexts (y .store) - contexts (l .store) = omega (arith, add-figure (l .store) (l .set) (l .scratch) x) in
+      ap (λ (k : ℕ). setLineOf [] k (y .reply)) e
 
-  -- ---- one step
+  -- ---- one step: no context goes
 
   shown-store : (c : ℕ) → asked (l .store) (l .scratch) c done .store ≡ l .store
   unfolding asked
@@ -52,23 +61,23 @@ module _ (l : Lent) where
   unfolding closeCall
   closed-store = by-unless _ _ (λ (x : SetLeft). x .store ≡ l .store) (λ n. refusal-keeps (l .store) (l .set) (l .scratch) n .0) refl _
 
-  call-figure : (r : Record) → contexts (l .store) + madeBy l r ≡ contexts (callOf l r .words .store)
-  unfolding callOf madeBy newSetCall
-  call-figure (singleton p r) = singleton-figure (l .store) (l .scratch) p r
-  call-figure (merge a b m) = merge-figure (l .store) (l .scratch) a b m
-  call-figure (newSet m) = omega arith
-  call-figure (add x) = add-figure (l .store) (l .set) (l .scratch) x
-  call-figure (stops xs) = omega arith
-  call-figure verdict = omega arith
-  call-figure (show c) = omega (arith, ap contexts (shown-store c))
-  call-figure close = omega (arith, ap contexts closed-store)
-  call-figure why = omega arith
+  call-keeps : (r : Record) → contexts (l .store) ≤ contexts (callOf l r .words .store)
+  unfolding callOf newSetCall
+  call-keeps (singleton p r) = omega (arith, singleton-figure (l .store) (l .scratch) p r)
+  call-keeps (merge a b m) = omega (arith, merge-figure (l .store) (l .scratch) a b m)
+  call-keeps (newSet m) = omega arith
+  call-keeps (add x) = omega (arith, add-figure (l .store) (l .set) (l .scratch) x)
+  call-keeps (stops xs) = omega arith
+  call-keeps verdict = omega arith
+  call-keeps (show c) = omega (arith, ap contexts (shown-store c))
+  call-keeps close = omega (arith, ap contexts closed-store)
+  call-keeps why = omega arith
 
-  reading-figure : (x : Reading) → contexts (l .store) + madeAt l x ≡ contexts (readingStep l x .printed .words .store)
-  unfolding madeAt readingStep
-  reading-figure (found r j) = call-figure r
-  reading-figure ended = omega arith
-  reading-figure malformed = omega arith
+  reading-keeps : (x : Reading) → contexts (l .store) ≤ contexts (readingStep l x .printed .words .store)
+  unfolding readingStep
+  reading-keeps (found r j) = call-keeps r
+  reading-keeps ended = omega arith
+  reading-keeps malformed = omega arith
 
   reading-over : (x : Reading) → readingStep l x .after ≡ over → readingStep l x .printed .words .store ≡ l .store
   unfolding readingStep
@@ -77,12 +86,12 @@ module _ (l : Lent) where
   reading-over malformed e = refl
 
 module _ (s : List ℕ) (i : ℕ) (l : Lent) where
-  step-figure : (j : ℕ) → stepOf s i l .after ≡ goes j → contexts (l .store) + madeAt l (readAt s i) ≡ contexts (stepOf s i l .printed .words .store)
+  step-keeps : contexts (l .store) ≤ contexts (stepOf s i l .printed .words .store)
   unfolding stepOf
-  step-figure j q =
+  step-keeps =
       below? mostBytes (length s)
-      (λ h. let q′ : over ≡ goes j = rw (lt-ltb mostBytes (length s) h, stepOf) at q in never (cc))
-      (λ h. rw (le-ltb mostBytes (length s) h, stepOf) (reading-figure l (readAt s i)))
+      (λ h. rw (lt-ltb mostBytes (length s) h, stepOf) (omega arith))
+      (λ h. rw (le-ltb mostBytes (length s) h, stepOf) (reading-keeps l (readAt s i)))
 
   step-over : stepOf s i l .after ≡ over → stepOf s i l .printed .words .store ≡ l .store
   unfolding stepOf
@@ -95,7 +104,7 @@ module _ (s : List ℕ) (i : ℕ) (l : Lent) where
   unfolding sumFrom
   sum-over k q = rw (q, sumFrom)
 
-  sum-next : (k j : ℕ) → stepOf s i l .after ≡ goes j → sumFrom (suc k) s i l ≡ madeAt l (readAt s i) + sumFrom k s j (stepOf s i l .printed .words)
+  sum-next : (k j : ℕ) → stepOf s i l .after ≡ goes j → sumFrom (suc k) s i l ≡ madeBy l (stepOf s i l .printed) + sumFrom k s j (stepOf s i l .printed .words)
   unfolding sumFrom
   sum-next k j q = rw (q, sumFrom)
 
@@ -107,7 +116,7 @@ sum-from zero s i l = omega arith
 sum-from (suc k) s i l =
     let t = stepOf s i l in
     after? (t .after)
-    (λ j q. rw (run-next s i l k j q) (omega (arith, sum-next s i l k j q, step-figure s i l j q, sum-from k s j (t .printed .words))))
+    (λ j q. rw (run-next s i l k j q) (omega (arith, sum-next s i l k j q, step-keeps s i l, sum-from k s j (t .printed .words))))
     (λ q. rw (run-over s i l k q) (omega (arith, sum-over s i l k q, ap contexts (step-over s i l q))))
 
 fresh-contexts : contexts (fresh .store) ≡ 1
