@@ -4,9 +4,13 @@ use crate::reads::entry_count;
 use interning::inner::intern::Interned;
 use interning::inner::intern::intern_entries;
 use words::ContextId;
+ghost use lib.ListN.{length};
+ghost use Prim.Native.Nat.{_<_};
+ghost use Rattle.layout.specs.Decode.{storeOf};
 ghost use Rattle.entries.specs.Rest.{Finishing, Extends, whole};
 
-// Interns the n entries on the stack from `top` on and those of a context from an index on.
+// Interns the n entries on the stack from `top` on and those of a context from an index on. What comes of it may be
+// that context, or another.
 pub fn intern_with_rest(
     store: &mut [u32],
     scratch: &mut [u32],
@@ -14,8 +18,9 @@ pub fn intern_with_rest(
     index: usize,
     top: usize,
     n: usize,
+    other: ContextId,
 ) -> Interned
-    requires { ⌜ Finishing (now store) (now scratch) (context .0) index top n ⌝ }
+    requires { ⌜ Finishing (now store) (now scratch) (context .0) index top n × (other .0 < length (storeOf (now store))) ⌝ }
     ensures { λ r. ⌜ Extends (now (store .entry)) (now (scratch .entry)) top (whole (now (store .entry)) (now (scratch .entry)) (context .0) index top n) r
         (now (store .exit)) (now (scratch .exit)) ⌝ }
 {
@@ -28,5 +33,5 @@ pub fn intern_with_rest(
         next += 1;
         pushed += 1;
     }
-    intern_entries(store, scratch, top, pushed)
+    intern_entries(store, scratch, top, pushed, context, other)
 }

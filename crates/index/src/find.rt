@@ -60,7 +60,7 @@ fn same_single(store: &[u32], scratch: &[u32], candidate: usize, at: usize) -> b
 }
 
 // Is this record that of the n entries on the stack?
-fn same_record(
+pub fn same_record(
     store: &[u32],
     scratch: &[u32],
     candidate: usize,

@@ -11,6 +11,7 @@ pub use add::add_to_index;
 pub use add::clear_heads;
 pub use find::Lookup;
 pub use find::find_interned;
+pub use find::same_record;
 pub use hash::entries_hash;
 pub use reads::stack_parent;
 pub use reads::stack_state;

@@ -1,14 +1,16 @@
 -- Interning, case by case: found, made, no room, or the empty context. Nothing here has to be believed.
 use mathlib.Core.Path.{_≡_, refl, sym, ap, _∙_, subst}
+use mathlib.Core.Bool.{true}
 use mathlib.Core.List.{List, _∷_}
 use Prim.Native.Nat.{ℕ, suc, _<_, _≤_, _+_, _-_}
 use native.Mathlib.Omega.{arith}
 use native.Mathlib.Numerals.{add-one}
 use lib.ListN.{length, getD}
-use Rattle.arena.specs.Store.{Node, end, push, Store, find, at, nowhere}
+use Rattle.arena.specs.Store.{Node, end, push, Store, same, find, at, nowhere}
 use Rattle.arena.specs.Soundness.{Rise, Full}
 use Rattle.arena.specs.Place.{intern}
-use Rattle.arena.specs.Placed.{intern-found, intern-made}
+use Rattle.arena.specs.Placed.{intern-found, intern-made, intern-self}
+use Rattle.arena.specs.Trees.{same-true}
 use Rattle.arena.specs.Kinds.{size}
 use Rattle.arena.specs.Kinds.Laws.{intern-end, intern-dollar}
 use Rattle.arena.specs.Room.{room, pool}
@@ -16,14 +18,15 @@ use Rattle.layout.specs.Layout.{stop, count, used}
 use Rattle.layout.specs.Scratch.{stackParent, stackState}
 use Rattle.layout.specs.Listing.{listing}
 use Rattle.layout.specs.Listing.Laws.{entries-le, listing-rise, listing-full, listing-below, listing-size, listing-stop}
-use Rattle.layout.specs.Decode.{storeOf}
+use Rattle.layout.specs.Decode.{nodeIn, storeOf}
+use Rattle.layout.specs.Decode.Laws.{store-node}
 use Rattle.layout.specs.Ceilings.{Fits}
 use Rattle.layout.specs.Encode.{putRecord, putCounts, fill, written}
 use Rattle.encoding.specs.Good.{GoodStore}
 use Rattle.encoding.specs.Good.Laws.{good-more, words-grown}
 use Rattle.index.specs.Hash.{hash, nodeHash, nodeHash-agree, nodeHash-below, bucketOf}
 use Rattle.index.specs.Index.{Indexed, Sought}
-use Rattle.index.specs.Records.{Stacked, Proper, stackNode, hashIn}
+use Rattle.index.specs.Records.{Records, Stacked, Proper, stackNode, hashIn}
 use Rattle.index.specs.Writes.{putIndex}
 use Rattle.index.specs.Grow.{index-add, put-other, bucket-small}
 use Rattle.index.specs.Same.{single-node}
@@ -66,6 +69,17 @@ module _ {w z : List ℕ} {place n : ℕ} (v : Pushed w z place n) where
     proper = p;
     hashed = e;
   }
+
+  -- a context that is there can be compared with them
+  pub pushed-beside : Proper z place n → (c : ℕ) → c < length (storeOf w) → (Records w (count w) × (c < count w)) × (Stacked z place n (count w) × Proper z place n)
+  pushed-beside p c h = ((live-records (v .live), rw (live-count (v .live)) h), (rw (live-count (v .live)) (v .stacked), p))
+
+  -- they are its entries
+  pub side-pushed : (c : ℕ) → c < length (storeOf w) → same (stackNode z place n) (nodeIn w c) ≡ true
+      → GrewTo z z w (intern (storeOf w) (stackNode z place n)) c × More w 0 w
+  side-pushed c h e =
+      let is = same-true _ _ e ∙ sym (store-node w (count w) c (rw (live-count (v .live)) h)) in
+      grown-same w z _ c (v .live) (ap (intern (storeOf w)) is ∙ intern-self (storeOf w) (v .live .good .sound) c h)
 
   pub missing-of : Proper z place n → (h : ℕ) → h ≡ nodeHash (hash (storeOf w)) (stackNode z place n) → find (stackNode z place n) (storeOf w) ≡ nowhere → Missing w z place n h
   missing-of p h e m = record { pushed = v; proper = p; hashed = e; missing = m }

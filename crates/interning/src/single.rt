@@ -38,7 +38,7 @@ pub fn answer(interned: Interned, made: u32) -> Numbered
     }
 }
 
-// Places a stored state over a known context of a live store.
+// Places a stored state over a known context of a live store. There are no sides to try: the parent stands for them.
 fn place_single(
     store: &mut [u32],
     scratch: &mut [u32],
@@ -49,7 +49,7 @@ fn place_single(
     ensures { λ r. ⌜ numbered r (now (store .exit)) (now (scratch .exit)) ≡ placedSingle (now (store .entry)) (parent .0) (state .0) ⌝ }
 {
     index::put_entry(scratch, 0, parent.0, state.0);
-    let interned = intern_entries(store, scratch, 0, 1);
+    let interned = intern_entries(store, scratch, 0, 1, parent, parent);
     words::clear(scratch);
     answer(interned, 0)
 }

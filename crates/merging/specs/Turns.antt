@@ -112,6 +112,9 @@ module _ {w₀ z₀ : List ℕ} {a b top : ℕ} (f : Apart w₀ z₀ a b top) wh
     pub left-is : nodeAt (storeOf w) a ≡ A
     left-is = later-node w₀ a (v₀ .left) (g .live) (g .grew)
 
+    pub right-there : b < length (storeOf w)
+    right-there = later-below w₀ b (v₀ .right) (g .live) (g .grew)
+
     -- the right side is at its end: the rest of the left follows
     module _ (hi : i ≤ size A) (hj : size B ≤ j) (lj : j ≤ size B) where
       pub rest-left : Finishing w z a i top n

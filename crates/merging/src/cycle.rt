@@ -82,7 +82,7 @@ fn merge_entries(
     while left_index < left_len {
         if right_len <= right_index {
             return answer(
-                intern_with_rest(store, scratch, left, left_index, top, n),
+                intern_with_rest(store, scratch, left, left_index, top, n, right),
                 made,
             );
         }
@@ -118,7 +118,7 @@ fn merge_entries(
         made += beneath;
     }
     answer(
-        intern_with_rest(store, scratch, right, right_index, top, n),
+        intern_with_rest(store, scratch, right, right_index, top, n, left),
         made,
     )
 }

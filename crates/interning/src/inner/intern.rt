@@ -7,7 +7,9 @@ use layout::put_counts;
 use layout::put_record;
 use words::COMPACT_EMPTY_RETURN_STATE;
 use words::ContextId;
-ghost use Prim.Native.Nat.{_≤_};
+ghost use Prim.Native.Nat.{_≤_, _<_};
+ghost use lib.ListN.{length};
+ghost use Rattle.layout.specs.Decode.{storeOf};
 ghost use Rattle.interning.specs.Interned.{Interns, Missing};
 ghost use Rattle.interning.specs.Live.{Pushed};
 ghost use Rattle.index.specs.Records.{Proper};
@@ -68,13 +70,27 @@ fn push_new(store: &mut [u32], scratch: &mut [u32], at: usize, n: usize, hash: u
     push_array(store, scratch, at, n, hash)
 }
 
-// The number of the n entries on the stack, one at least and not `$` alone.
-fn intern_proper(store: &mut [u32], scratch: &mut [u32], at: usize, n: usize) -> Interned
-    requires { ⌜ Pushed (now store) (now scratch) at n × Proper (now scratch) at n ⌝ }
+// The number of the n entries on the stack, one at least and not `$` alone. A hash is worked out only where
+// they are those of neither of two contexts.
+fn intern_proper(
+    store: &mut [u32],
+    scratch: &mut [u32],
+    at: usize,
+    n: usize,
+    one: ContextId,
+    other: ContextId,
+) -> Interned
+    requires { ⌜ Pushed (now store) (now scratch) at n × Proper (now scratch) at n × (one .0 < length (storeOf (now store))) × (other .0 < length (storeOf (now store))) ⌝ }
     ensures { λ r. ⌜ Interns (now (store .entry)) (now (scratch .entry)) at n r (now (store .exit)) (now (scratch .exit)) ⌝ }
 {
-    let hash = index::entries_hash(scratch, at, n);
     let count = layout::count_of(store) as usize;
+    if index::same_record(store, scratch, one.0 as usize, at, n, count) {
+        return Interned::Found(one);
+    }
+    if index::same_record(store, scratch, other.0 as usize, at, n, count) {
+        return Interned::Found(other);
+    }
+    let hash = index::entries_hash(scratch, at, n);
     let found = index::find_interned(store, scratch, count, at, n, hash);
     let Lookup::At(context) = found else {
         return push_new(store, scratch, at, n, hash);
@@ -82,9 +98,17 @@ fn intern_proper(store: &mut [u32], scratch: &mut [u32], at: usize, n: usize) ->
     Interned::Found(context)
 }
 
-// The number of the n entries on the stack: of none, or of `$` alone, it is 0.
-pub fn intern_entries(store: &mut [u32], scratch: &mut [u32], at: usize, n: usize) -> Interned
-    requires { ⌜ Pushed (now store) (now scratch) at n ⌝ }
+// The number of the n entries on the stack: of none, or of `$` alone, it is 0. The two contexts are tried first:
+// in a merge they are its sides.
+pub fn intern_entries(
+    store: &mut [u32],
+    scratch: &mut [u32],
+    at: usize,
+    n: usize,
+    one: ContextId,
+    other: ContextId,
+) -> Interned
+    requires { ⌜ Pushed (now store) (now scratch) at n × (one .0 < length (storeOf (now store))) × (other .0 < length (storeOf (now store))) ⌝ }
     ensures { λ r. ⌜ Interns (now (store .entry)) (now (scratch .entry)) at n r (now (store .exit)) (now (scratch .exit)) ⌝ }
 {
     if n == 0 {
@@ -93,5 +117,5 @@ pub fn intern_entries(store: &mut [u32], scratch: &mut [u32], at: usize, n: usiz
     if index::stack_state(scratch, at) == COMPACT_EMPTY_RETURN_STATE {
         return Interned::Found(ContextId(0));
     }
-    intern_proper(store, scratch, at, n)
+    intern_proper(store, scratch, at, n, one, other)
 }

@@ -12,28 +12,28 @@ use Rattle.entries.proofs.rest.intern_with_rest.Statement.{statement}
 use Rattle.entries.proofs.rest.intern_with_rest.Tie as tie
 
 abbrev Inv-loop : tie.InvT-loop
-Inv-loop store scratch₀ context index top n count next₀ pushed₀ scratch next pushed =
+Inv-loop store scratch₀ context index top n other count next₀ pushed₀ scratch next pushed =
     (length scratch ≡ 16384) × (count ≡ size (nodeAt (storeOf store) (context .0))) × Tail store scratch₀ (context .0) index top n scratch next pushed
 
 abbrev μ-loop : tie.MeasureT-loop
-μ-loop store scratch₀ context index top n count next₀ pushed₀ scratch next pushed = count - next
+μ-loop store scratch₀ context index top n other count next₀ pushed₀ scratch next pushed = count - next
 
 entry-count-requires : tie.Need-entry-count-requires Inv-loop μ-loop
 entry-count-requires c κs =
-    let pre = c .before .before .before .pre in
+    let pre = c .before .before .before .pre .0 in
     let args = c .before .before .before .args in
     live-known (pre .live) (args .context .0) (pre .known)
 
 loop-holds : tie.Need-loop-holds Inv-loop μ-loop
 loop-holds c =
     let entry-count = c .entry-count in
-    let pre = c .before .before .before .before .pre in
+    let pre = c .before .before .before .before .pre .0 in
     (pre .live .index .sized, entry-count .ensures, tail-start _ _ _ _ _ _ pre)
 
 entry-requires : tie.Need-entry-requires Inv-loop μ-loop
 entry-requires c κs =
     let loop = c .before .before .loop in
-    let pre = c .before .before .before .before .before .before .before .pre in
+    let pre = c .before .before .before .before .before .before .before .pre .0 in
     let args = c .before .before .before .before .before .before .before .args in
     (live-known (pre .live) (args .context .0) (pre .known), omega (arith, loop .inv .1))
 
@@ -71,13 +71,14 @@ loop-again c =
 intern-entries-requires : tie.Need-intern-entries-requires Inv-loop μ-loop
 intern-entries-requires c κs =
     let loop = c .before .before .before .loop in
-    tail-done (loop .inv .2) (omega (arith, loop .inv .1)) .0
+    let pre = c .before .before .before .before .before .before .before .before .pre in
+    (tail-done (loop .inv .2) (omega (arith, loop .inv .1)) .0, pre .0 .known, pre .1)
 
 same-length : tie.Need-same-length Inv-loop μ-loop
 same-length c =
     let intern-entries = c .before .before .before .before .intern-entries in
     let loop = c .before .before .before .before .before .before .before .before .loop in
-    let pre = c .before .before .before .before .before .before .before .before .before .before .before .before .before .pre in
+    let pre = c .before .before .before .before .before .before .before .before .before .before .before .before .before .pre .0 in
     let all = finished (loop .inv .2) (omega (arith, loop .inv .1)) (intern-entries .result) (intern-entries .last .0) (intern-entries .last .1 .0) (intern-entries .ensures) in
     omega (arith, live-length (pre .live), extends-lengths pre (intern-entries .result) (intern-entries .last .0) (intern-entries .last .1 .0) all .0)
 
@@ -85,7 +86,7 @@ same-length-2 : tie.Need-same-length-2 Inv-loop μ-loop
 same-length-2 c =
     let intern-entries = c .before .before .before .before .intern-entries in
     let loop = c .before .before .before .before .before .before .before .before .loop in
-    let pre = c .before .before .before .before .before .before .before .before .before .before .before .before .before .pre in
+    let pre = c .before .before .before .before .before .before .before .before .before .before .before .before .before .pre .0 in
     let all = finished (loop .inv .2) (omega (arith, loop .inv .1)) (intern-entries .result) (intern-entries .last .0) (intern-entries .last .1 .0) (intern-entries .ensures) in
     omega (arith, pre .live .index .sized, extends-lengths pre (intern-entries .result) (intern-entries .last .0) (intern-entries .last .1 .0) all .1)
 

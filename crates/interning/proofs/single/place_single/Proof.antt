@@ -3,6 +3,7 @@ use borrow.Author.Needs.{needs}
 use native.Mathlib.Omega.{arith}
 use mathlib.Core.Path.{_∙_}
 use Rattle.store.specs.Admit.{cleared}
+use Rattle.interning.specs.Live.{live-count}
 use Rattle.interning.specs.SingletonCall.Laws.{placedSingle}
 use Rattle.interning.specs.Outcomes.{single-pushed, single-place, interned-left, interned-length}
 use Rattle.interning.proofs.single.place_single.Statement.{statement}
@@ -16,8 +17,12 @@ intern-entries-requires c κs =
     let args = c .before .before .before .before .before .before .before .before .args in
     let pre = c .before .before .before .before .before .before .before .before .pre in
     let put-entry = c .before .before .before .before .put-entry in
-    single-pushed (args .store .now) (args .scratch .now) (pre .0) (args .parent .0) (args .state .0) (pre .1) (pre .2) (put-entry .last .0)
-    (put-entry .ensures)
+    let known = rw (live-count (pre .0)) at (pre .1) in (
+      single-pushed (args .store .now) (args .scratch .now) (pre .0) (args .parent .0) (args .state .0) (pre .1) (pre .2) (put-entry .last .0)
+          (put-entry .ensures),
+      known,
+      known,
+    )
 
 returns : tie.Need-returns
 unfolding placedSingle

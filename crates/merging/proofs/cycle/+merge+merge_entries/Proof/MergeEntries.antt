@@ -14,7 +14,7 @@ use Rattle.words.specs.Refusals.{number}
 use Rattle.entries.specs.Rest.{live-known}
 use Rattle.merging.specs.Standing.{Reached, Stuck, Ended, stateOf, walked, ended-lengths}
 use Rattle.merging.specs.Walking.{exchanged}
-use Rattle.merging.specs.Turns.{Heads, heads-exchanged, sides-exchanged, go-start, left-known, left-is, rest-left, left-ended, few-made, fitting}
+use Rattle.merging.specs.Turns.{Heads, heads-exchanged, sides-exchanged, go-start, left-known, left-is, right-there, rest-left, left-ended, few-made, fitting}
 use Rattle.merging.specs.Turns.{slot, take-lower, parents-fall, inner, take-equal, inner-refused, walked-even}
 use Rattle.merging.proofs.cycle.+merge+merge_entries.Lts-merge_entries as merge-entries-lts
 use Rattle.merging.proofs.cycle.+merge+merge_entries.Proof.Measures.{MergeEntries, Inv-loop, μ-loop}
@@ -48,8 +48,10 @@ entries-intern-with-rest-requires t c κs =
     let if1 = c .before .before .if1 in
     let p1 = c .before .before .before .before in
     let loop = p1 .loop in
-    let pre = p1 .before .before .before .before .before .before .before .pre in
-    rest-left (pre .1) (loop .inv .0) (omega (arith, loop .inv .1)) (omega (arith, loop .inv .2, if1 .taken)) (omega (arith, loop .inv .2))
+    let pre = p1 .before .before .before .before .before .before .before .pre in (
+      rest-left (pre .1) (loop .inv .0) (omega (arith, loop .inv .1)) (omega (arith, loop .inv .2, if1 .taken)) (omega (arith, loop .inv .2)),
+      right-there (pre .1) (loop .inv .0),
+    )
 
 pub entries-answer-requires : MergeEntries merge-entries-lts.Need-answer-requires
 entries-answer-requires t c κs =
@@ -427,7 +429,10 @@ entries-intern-with-rest-requires-2 t c κs =
     let p1 = c .before .before .before in
     let loop = p1 .loop in
     let pre = p1 .before .before .before .before .before .before .before .pre in
-    rest-left (sides-exchanged (pre .1)) (exchanged (loop .inv .0)) (omega (arith, loop .inv .2)) (omega (arith, loop .inv .1, loop-test .left)) (omega (arith, loop .inv .1))
+    let turned = sides-exchanged (pre .1) in (
+      rest-left turned (exchanged (loop .inv .0)) (omega (arith, loop .inv .2)) (omega (arith, loop .inv .1, loop-test .left)) (omega (arith, loop .inv .1)),
+      right-there turned (exchanged (loop .inv .0)),
+    )
 
 all-right : MergeEntries (λ p q v i μ. (c : merge-entries-lts.After-intern-with-rest2 p q v i μ) →
     let intern-with-rest2 = c .intern-with-rest2 in
