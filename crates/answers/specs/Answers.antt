@@ -28,6 +28,9 @@ answerOf r = record { refusal = entryOf r .refusal; value = entryOf r .value }
 abbrev pub numberOf : Reply → ℕ
 numberOf r = entryOf r .refusal
 
+abbrev pub counted : ℕ → ℕ → ℕ → ℕ → CountedAnswer
+counted n v m k = record { refusal = n; value = v; merges = m; made = k }
+
 -- of what a call leaves: with how many merges were counted, and how many contexts made
 abbrev pub countedOf : Left → CountedAnswer
-countedOf x = record { refusal = entryOf (x .reply) .refusal; value = entryOf (x .reply) .value; merges = x .merges; made = x .made }
+countedOf x = counted (entryOf (x .reply) .refusal) (entryOf (x .reply) .value) (x .merges) (x .made)

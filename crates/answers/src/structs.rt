@@ -2,6 +2,7 @@
 use words::Refusal;
 ghost use mathlib.Core.Path.{_≡_};
 ghost use Rattle.words.specs.Refusals.{number};
+ghost use Rattle.answers.specs.Answers.{counted};
 
 // A refusal's number, 0 where there is none; then the value.
 #[repr(C)]
@@ -50,7 +51,7 @@ pub fn refusal_entry(refusal: Refusal) -> EntryAnswer
 
 // The same of an answer that counts.
 pub fn refusal_counted(refusal: Refusal) -> CountedAnswer
-    ensures { λ r. ⌜ (r .refusal ≡ number refusal) × (r .value ≡ 0) × (r .merges ≡ 0) × (r .made ≡ 0) ⌝ }
+    ensures { λ r. ⌜ r ≡ counted (number refusal) 0 0 0 ⌝ }
 {
     CountedAnswer {
         refusal: words::refusal_number(refusal),

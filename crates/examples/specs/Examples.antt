@@ -109,14 +109,16 @@ unfolding script readAt recordAt payloadAt accepts payloadOf payloads configFrom
 records = (refl, refl, refl, refl, refl, refl, refl, refl)
 
 -- stop states 7 and 8, none at all, a close, and a question for the reason
-pub others : (readAt (8 ∷ 0 ∷ 5 ∷ 0 ∷ 7 ∷ 0 ∷ 0 ∷ 0 ∷ 8 ∷ 0 ∷ 0 ∷ 0 ∷ []) 0 ≡ found (stops (7 ∷ 8 ∷ [])) 12) × (readAt (0 ∷ 0 ∷ 5 ∷ 0 ∷ []) 0 ≡ found (stops []) 4)
+pub others : (readAt (8 ∷ 0 ∷ 5 ∷ 0 ∷ 7 ∷ 0 ∷ 0 ∷ 0 ∷ 8 ∷ 0 ∷ 0 ∷ 0 ∷ []) 0 ≡ found (stops (7 ∷ 8 ∷ [])) 12)
+    × (readAt (0 ∷ 0 ∷ 5 ∷ 0 ∷ []) 0 ≡ found (stops []) 4)
     × (readAt (0 ∷ 0 ∷ 8 ∷ 0 ∷ []) 0 ≡ found close 4) × (readAt (0 ∷ 0 ∷ 9 ∷ 0 ∷ []) 0 ≡ found why 4)
 unfolding readAt recordAt payloadAt accepts payloadOf payloads wordsAt u16At u32At u64At
 others = (refl, refl, refl, refl)
 
 -- a byte short; kinds 0 and 10; lengths that are not the kinds'; a mode of 2
 pub faults : (readAt (4 ∷ 0 ∷ 7 ∷ 0 ∷ 2 ∷ 0 ∷ 0 ∷ []) 0 ≡ malformed) × (readAt (0 ∷ 0 ∷ 0 ∷ 0 ∷ []) 0 ≡ malformed) × (readAt (0 ∷ 0 ∷ 10 ∷ 0 ∷ []) 0 ≡ malformed)
-    × (readAt (3 ∷ 0 ∷ 7 ∷ 0 ∷ 2 ∷ 0 ∷ 0 ∷ []) 0 ≡ malformed) × (readAt (3 ∷ 0 ∷ 5 ∷ 0 ∷ 2 ∷ 0 ∷ 0 ∷ []) 0 ≡ malformed) × (readAt (1 ∷ 0 ∷ 6 ∷ 0 ∷ 0 ∷ []) 0 ≡ malformed)
+    × (readAt (3 ∷ 0 ∷ 7 ∷ 0 ∷ 2 ∷ 0 ∷ 0 ∷ []) 0 ≡ malformed) × (readAt (3 ∷ 0 ∷ 5 ∷ 0 ∷ 2 ∷ 0 ∷ 0 ∷ []) 0 ≡ malformed)
+    × (readAt (1 ∷ 0 ∷ 6 ∷ 0 ∷ 0 ∷ []) 0 ≡ malformed)
     × (readAt (1 ∷ 0 ∷ 9 ∷ 0 ∷ 0 ∷ []) 0 ≡ malformed)
     × (readAt (1 ∷ 0 ∷ 3 ∷ 0 ∷ 2 ∷ []) 0 ≡ malformed) × (readAt (9 ∷ 0 ∷ 2 ∷ 0 ∷ 0 ∷ 0 ∷ 0 ∷ 0 ∷ 0 ∷ 0 ∷ 0 ∷ 0 ∷ 2 ∷ []) 0 ≡ malformed)
 unfolding readAt recordAt payloadAt accepts payloadOf payloads u16At u32At

@@ -81,5 +81,6 @@ pub fails : (b : Bool) (P : Type 0) → (b ≡ true → P) → (P → b ≡ true
 fails b P so back = (λ e p. never-both (back p) (not-true b e), λ n. bool? b (λ t. absurd (n (so t))) (λ f. ap not f))
 
 -- of two tests
-pub two-hold : (a b : Bool) (P Q : Type 0) → (a ≡ true → P) → (P → a ≡ true) → (b ≡ true → Q) → (Q → b ≡ true) → ((a && b) ≡ true → P × Q) × (P × Q → (a && b) ≡ true)
+pub two-hold : (a b : Bool) (P Q : Type 0) → (a ≡ true → P) → (P → a ≡ true) → (b ≡ true → Q) → (Q → b ≡ true)
+    → ((a && b) ≡ true → P × Q) × (P × Q → (a && b) ≡ true)
 two-hold a b P Q f g h k = (λ e. (f (and-left a b e), h (and-right a b e)), λ q. both-true a b (g (q .0)) (k (q .1)))

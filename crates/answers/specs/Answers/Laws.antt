@@ -1,14 +1,11 @@
 -- The struct of a refusal. Nothing here has to be believed.
 use mathlib.Core.Path.{_≡_}
-use mathlib.Core.List.{[]}
 use Prim.Native.Nat.{ℕ}
 use Rattle.words.specs.Refusals.{number}
 use Rattle.words.specs.declared.refusals.Refusal.{Refusal}
-use Rattle.store.specs.Calls.{refused, leaves}
+use Rattle.store.specs.Calls.{refused}
 use Rattle.answers.specs.declared.structs.Answer.{Answer}
-use Rattle.answers.specs.declared.structs.CountedAnswer.{CountedAnswer}
 use Rattle.answers.specs.declared.structs.EntryAnswer.{EntryAnswer}
-use Rattle.sets.specs.Calls.{refused as notDone, setLeft}
 use Rattle.groups.specs.Answers.{Answer as Alt, none, only}
 use Rattle.deciding.specs.OneAlt.{oneAlt}
 use Rattle.verdicts.specs.Calls.{refused as notSaid, says, alternative}
@@ -18,8 +15,7 @@ use Rattle.figures.specs.declared.answers.Told.the-variants.{All, Refused}
 use Rattle.answers.specs.declared.figuring.FiguresAnswer.{FiguresAnswer}
 use Rattle.answers.specs.FiguresAnswers.{figuresAnswerOf}
 use Rattle.answers.specs.VerdictAnswers.{altAnswerOf, verdictAnswerOf}
-use Rattle.answers.specs.SetAnswers.{setAnswerOf, setCountedOf}
-use Rattle.answers.specs.Answers.{entryOf, answerOf, countedOf}
+use Rattle.answers.specs.Answers.{entryOf, answerOf}
 
 same-answers : (n m v u : ℕ) → n ≡ m → v ≡ u → _≡_ {A = Answer} (record { refusal = n; value = v }) (record { refusal = m; value = u })
 same-answers n m v u e g = rw (e, g)
@@ -37,16 +33,6 @@ module _ (f : Refusal) where
   pub refused-entry : (a : EntryAnswer) → a .refusal ≡ number f → a .found ≡ 0 → a .value ≡ 0 → a ≡ entryOf (refused (number f))
   unfolding entryOf
   refused-entry a n e v = same-entries (a .refusal) (number f) (a .found) 0 (a .value) 0 n e v
-
-  pub refused-counted : (a : CountedAnswer) → a .refusal ≡ number f → a .value ≡ 0 → a .merges ≡ 0 → a .made ≡ 0 → a ≡ countedOf (leaves (refused (number f)) [] [])
-  unfolding entryOf
-  refused-counted a n v m k = rw (n, v, m, k)
-
--- the same of a call on a set
-pub refused-set-counted : (f : Refusal) (a : CountedAnswer) → a .refusal ≡ number f → a .value ≡ 0 → a .merges ≡ 0 → a .made ≡ 0
-    → a ≡ setCountedOf (setLeft (notDone (number f)) [] [] [])
-unfolding setAnswerOf
-refused-set-counted f a n v m k = rw (n, v, m, k)
 
 -- the same of a call on a set's subsets
 module _ (f : Refusal) where

@@ -2,7 +2,6 @@
 use borrow.Author.Needs.{needs}
 use mathlib.Core.Path.{refl}
 use Rattle.answers.specs.SetAnswers.{setAnswerOf}
-use Rattle.answers.specs.Answers.Laws.{refused-set-counted}
 use Rattle.answers.proofs.adding.added_answer.Statement.{statement}
 use Rattle.answers.proofs.adding.added_answer.Tie as tie
 
@@ -19,11 +18,8 @@ returns-2 c =
     rw (answer .given .1) refl
 
 returns-3 : tie.Need-returns-3
-returns-3 c =
-    let refusal-counted = c .refusal-counted in
-    let answer2 = c .before .before .answer2 in
-    rw (answer2 .given .1)
-    (refused-set-counted (answer2 .given .0 .0) (refusal-counted .result) (refusal-counted .ensures .0) (refusal-counted .ensures .1) (refusal-counted .ensures .2) (refusal-counted .ensures .3))
+unfolding setAnswerOf
+returns-3 c = rw (c .before .before .answer2 .given .1) (c .refusal-counted .ensures)
 
 pub added-answer-spec : {M : Type 1} → statement M
 added-answer-spec =

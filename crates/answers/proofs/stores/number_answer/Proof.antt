@@ -1,7 +1,6 @@
 -- By cases.
 use borrow.Author.Needs.{needs}
 use mathlib.Core.Path.{refl}
-use Rattle.answers.specs.Answers.Laws.{refused-counted}
 use Rattle.answers.specs.Answers.{entryOf}
 use Rattle.answers.proofs.stores.number_answer.Statement.{statement}
 use Rattle.answers.proofs.stores.number_answer.Tie as tie
@@ -11,11 +10,8 @@ unfolding entryOf
 returns c = rw (c .before .answer .given .1) refl
 
 returns-2 : tie.Need-returns-2
-returns-2 c =
-    let answer2 = c .before .before .answer2 in
-    let refusal-counted = c .refusal-counted in
-    rw (answer2 .given .1)
-    (refused-counted (answer2 .given .0 .0) (refusal-counted .result) (refusal-counted .ensures .0) (refusal-counted .ensures .1) (refusal-counted .ensures .2) (refusal-counted .ensures .3))
+unfolding entryOf
+returns-2 c = rw (c .before .before .answer2 .given .1) (c .refusal-counted .ensures)
 
 pub number-answer-spec : {M : Type 1} → statement M
 number-answer-spec =

@@ -20,7 +20,8 @@ use Rattle.merging.proofs.cycle.+merge+merge_entries.Proof.MergeEntries
 use Rattle.merging.proofs.cycle.+merge+merge_entries.Proof.MergeEntries.{entries-entry-requires-2, entries-add-put-entry, entries-put-entry-requires, entries-add-left-index, entries-add-n}
 use Rattle.merging.proofs.cycle.+merge+merge_entries.Proof.MergeEntries.{entries-loop-less, entries-loop-again, entries-add-put-entry-2, entries-put-entry-requires-2, entries-add-right-index}
 use Rattle.merging.proofs.cycle.+merge+merge_entries.Proof.MergeEntries.{entries-add-n-2, entries-loop-less-2, entries-loop-again-2, entries-add-merge, entries-merge-requires}
-use Rattle.merging.proofs.cycle.+merge+merge_entries.Proof.MergeEntries.{entries-same-length-3, entries-same-length-4, entries-returns-2, entries-add-put-entry-3, entries-put-entry-requires-3}
+use Rattle.merging.proofs.cycle.+merge+merge_entries.Proof.MergeEntries.{entries-same-length-3, entries-same-length-4, entries-returns-2, entries-add-put-entry-3}
+use Rattle.merging.proofs.cycle.+merge+merge_entries.Proof.MergeEntries.{entries-put-entry-requires-3}
 use Rattle.merging.proofs.cycle.+merge+merge_entries.Proof.MergeEntries.{entries-add-left-index-2, entries-add-right-index-2, entries-add-n-3, entries-add-made, entries-loop-less-3}
 use Rattle.merging.proofs.cycle.+merge+merge_entries.Proof.MergeEntries.{entries-loop-again-3, entries-intern-with-rest-requires-2, entries-answer-requires-2}
 use Rattle.merging.proofs.cycle.+merge+merge_entries.Proof.MergeEntries.{entries-same-length-5, entries-same-length-6, entries-returns-3}
