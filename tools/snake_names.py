@@ -17,14 +17,17 @@ import sys
 WORD = r"[^\s(){}.;,@\"«»:]+"
 TOKEN = re.compile(r"(?<![^\s(){}.;,@\"«»:\[\]`|'/*])[^\s(){}.;,@\"«»:\[\]`|/*]+")
 TOP = re.compile(rf"^((?:unfoldable |abbrev |pub |ghost |opaque )*)({WORD}(?: {WORD})*?)((?: \{{[^{{}}\n]*\}})*) :(?= |$)")
-MEMBER = re.compile(rf"^  +({WORD}(?: {WORD})*)(?: \{{[^{{}}\n]*\}})* :(?= |$)")
+MEMBER = re.compile(rf"^  +(?:pub |unfoldable |abbrev )*({WORD}(?: {WORD})*)(?: \{{[^{{}}\n]*\}})* :(?= |$)")
+# A definition inside a block with parameters: its name stands on a line with its type, and again before its equation.
+INNER = re.compile(rf"^  +(?:pub |unfoldable |abbrev )*({WORD})(?: \{{[^{{}}\n]*\}})* :(?= |$)")
 OPENS = re.compile(r"^(?:\w+ )*(record|data|mutual) ?")
 USE = re.compile(r"^[ \t]*(?:pub |ghost |unfoldable )*use ([^\s;{]+?)(?:\.\{([^{}]*)\}|(?: as (\S+?))?);?$", re.M)
 GENERATED = ("Proof.antt", "Answers.antt", "Invariants.antt", "Statement.antt")
 SPECIAL = {"getD": "get_or", "sameKey": "same_keys"}
 # Lemmas that would have their function's name.
 LEMMAS = """sum-from in_order alts-length on_store held-stops on-verdict on-set joined-flags too_much subsets-length figures-line
-fresh-store end_line and-then config-of fresh_set same-words""".split()
+fresh-store end_line and-then config-of fresh_set same-words row-with made-over parent-at number-line entry-state lent-lengths
+in-pool parent-of refusal-line context-line entry-parent put-node state-at""".split()
 RUST = re.compile(r"//[^\n]*|\bfn \w+|\b\w+(?=(?:::<[^()\n]*>)?\()|^ *(?:pub )?use [^;]*;", re.M)
 PATHS = re.compile(r"^.*\buse .*$|--[^\n]*|[^\s(){};,]*\.[^\s(){};,]*", re.M)
 
@@ -62,6 +65,9 @@ def declared(text):
         found = mode and MEMBER.match(line)
         if found and not line.strip().startswith("--"):
             members.update(found.group(1).split())
+        found = INNER.match(line)
+        if found and re.search(rf"^ +{re.escape(found.group(1))}(?: [^=\n]*)? =", text, re.M):
+            tops.add(found.group(1))
     return tops, members
 
 
@@ -78,7 +84,7 @@ def main(argv):
     texts = {path: read(path) for path in files(root)}
     names, members = set(), set()
     for path, text in texts.items():
-        if path.endswith(".antt") and os.path.basename(path) not in GENERATED:
+        if path.endswith(".antt") and not ("/proofs/" in path and os.path.basename(path) in GENERATED):
             tops, inner = declared(text)
             names |= tops | inner
             members |= inner

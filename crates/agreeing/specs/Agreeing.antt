@@ -15,8 +15,8 @@ denied b e t = rw e at t
 -- ---- bytes compared one by one
 
 module _ (a u : List ℕ) (at m : ℕ) where
-  pub agree-short : m ≤ length u → length a - at < m → take m (drop at a) ≡ take m u → ⊥
-  agree-short hu ha e =
+  pub agree_short : m ≤ length u → length a - at < m → take m (drop at a) ≡ take m u → ⊥
+  agree_short hu ha e =
       omega (arith, ap length e, length-take m (drop at a), length-drop at a, length-take-le m u hu)
 
   pub agree_more : (i : ℕ) → m ≤ length u → m ≤ length a - at → i < m → get_or a (at + i) 0 ≡ get_or u i 0 → take i (drop at a) ≡ take i u
@@ -28,8 +28,8 @@ module _ (a u : List ℕ) (at m : ℕ) where
       ∙ ap (λ (x : ℕ). take i u ++ x ∷ []) (get_or-drop at a i 0 ∙ g)
       ∙ sym (take-suc u i 0 (omega arith)))
 
-  pub agree-not : (i : ℕ) → i < m → (get_or a (at + i) 0 ≡ get_or u i 0 → ⊥) → take m (drop at a) ≡ take m u → ⊥
-  agree-not i h differs e =
+  pub agree_not : (i : ℕ) → i < m → (get_or a (at + i) 0 ≡ get_or u i 0 → ⊥) → take m (drop at a) ≡ take m u → ⊥
+  agree_not i h differs e =
       differs (sym (get_or-drop at a i 0) ∙ sym (get_or-take m (drop at a) i 0 h) ∙ ap (λ (l : List ℕ). get_or l i 0) e ∙ get_or-take m u i 0 h)
 
 -- what follows the first n bytes
@@ -39,20 +39,20 @@ follows a n h ys e = ap (drop n) e ∙ drop_at (take n a) ys n (length-take-le n
 -- ---- the last line
 
 module _ (a : List ℕ) (n : ℕ) (h : n ≤ length a) (xs b : List ℕ) (m : ℕ) (u : List ℕ) (v : Wrote b 0 xs m u) where
-  last-is : take m u ≡ xs
-  last-is =
+  last_is : take m u ≡ xs
+  last_is =
       let l : m ≡ length xs = v.after ∙ omega arith in
       ap (λ (k : ℕ). take k u) l ∙ ap (take (length xs)) v.bytes ∙ take_laid b xs (omega (arith, v.within))
 
-  pub last-not : (take m (drop n a) ≡ take m u → ⊥) → a ≡ take n a ++ xs → ⊥
-  last-not differs x =
+  pub last_not : (take m (drop n a) ≡ take m u → ⊥) → a ≡ take n a ++ xs → ⊥
+  last_not differs x =
       let l : m ≡ length xs = v.after ∙ omega arith in
-      differs (ap (λ (k : ℕ). take k (drop n a)) l ∙ ap (take (length xs)) (follows a n h xs x) ∙ take_all (length xs) xs (omega arith) ∙ sym last-is)
+      differs (ap (λ (k : ℕ). take k (drop n a)) l ∙ ap (take (length xs)) (follows a n h xs x) ∙ take_all (length xs) xs (omega arith) ∙ sym last_is)
 
-  pub last-same : take m (drop n a) ≡ take m u → n + m ≡ length a → a ≡ take n a ++ xs
-  last-same same l =
-      sym (take_all (n + m) a (omega arith)) ∙ take-add n m a ∙ ap (λ (y : List ℕ). take n a ++ y) (same ∙ last-is)
+  pub last_same : take m (drop n a) ≡ take m u → n + m ≡ length a → a ≡ take n a ++ xs
+  last_same same l =
+      sym (take_all (n + m) a (omega arith)) ∙ take-add n m a ∙ ap (λ (y : List ℕ). take n a ++ y) (same ∙ last_is)
 
-  pub last-longer : (n + m ≡ length a → ⊥) → a ≡ take n a ++ xs → ⊥
-  last-longer differs x =
+  pub last_longer : (n + m ≡ length a → ⊥) → a ≡ take n a ++ xs → ⊥
+  last_longer differs x =
       differs (omega (arith, v.after, ap length x, length-append (take n a) xs, length-take-le n a h))

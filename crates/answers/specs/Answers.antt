@@ -31,5 +31,5 @@ abbrev pub counted : ℕ → ℕ → ℕ → ℕ → CountedAnswer
 counted n v m k = record { refusal = n; value = v; merges = m; made = k }
 
 -- of what a call leaves: with how many merges were counted, and how many contexts made
-abbrev pub countedOf : Left → CountedAnswer
-countedOf x = counted (entry_of x.reply).refusal (entry_of x.reply).value x.merges x.made
+abbrev pub counted_of : Left → CountedAnswer
+counted_of x = counted (entry_of x.reply).refusal (entry_of x.reply).value x.merges x.made

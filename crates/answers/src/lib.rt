@@ -1,4 +1,6 @@
 // Enums do not cross the border to C: structs and numbers that stand there for the answers of the calls.
+#![tactic(auto)]
+
 mod adding;
 mod figuring;
 mod judging;

@@ -2,9 +2,9 @@
 ghost use Rattle.std.specs.Prelude.{◌≡◌, []};
 ghost use Rattle.store.specs.Renewed.{renewed};
 ghost use Rattle.interning.specs.Replies.{numbered};
-ghost use Rattle.queries.specs.Answers.{decided, counted, parentFound, stateFound};
+ghost use Rattle.queries.specs.Answers.{decided, counted, parent_found, state_found};
 ghost use Rattle.contexts.specs.Replies.{merged};
-ghost use Rattle.answers.specs.Answers.{answer_of, entry_of, number_of, countedOf};
+ghost use Rattle.answers.specs.Answers.{answer_of, entry_of, number_of, counted_of};
 
 use crate::structs::{
     Answer, CountedAnswer, EntryAnswer, refusal_answer, refusal_counted, refusal_entry,
@@ -26,7 +26,7 @@ pub fn fresh_number(answer: Renewed) -> u32
 
 // The answer to a merge: a context's number, after so many merges, with so many contexts made.
 pub fn merged_answer(answer: Merged) -> CountedAnswer
-    ensures { result ≡ countedOf (merged answer [] []) }
+    ensures { result ≡ counted_of (merged answer [] []) }
 {
     match answer {
         Merged::Number(context, tally) => CountedAnswer {
@@ -41,7 +41,7 @@ pub fn merged_answer(answer: Merged) -> CountedAnswer
 
 // The answer with a context's number, and 1 where it was made.
 pub fn number_answer(answer: Numbered) -> CountedAnswer
-    ensures { result ≡ countedOf (numbered answer [] []) }
+    ensures { result ≡ counted_of (numbered answer [] []) }
 {
     match answer {
         Numbered::Number(context, made) => CountedAnswer {
@@ -86,7 +86,7 @@ pub fn truth_answer(answer: Decided) -> Answer
 
 // The answer with the state of an entry.
 pub fn state_answer(answer: StateFound) -> EntryAnswer
-    ensures { result ≡ entry_of (stateFound answer) }
+    ensures { result ≡ entry_of (state_found answer) }
 {
     match answer {
         StateFound::State(state) => EntryAnswer {
@@ -105,7 +105,7 @@ pub fn state_answer(answer: StateFound) -> EntryAnswer
 
 // The answer with the parent of an entry.
 pub fn parent_answer(answer: ParentFound) -> EntryAnswer
-    ensures { result ≡ entry_of (parentFound answer) }
+    ensures { result ≡ entry_of (parent_found answer) }
 {
     match answer {
         ParentFound::Parent(context) => EntryAnswer {

@@ -6,7 +6,7 @@ use Rattle.stacks.specs.Forest.{Forest, none, mark, over}
 use Rattle.stacks.specs.Canon.{Some, From, Canon}
 use Rattle.arena.specs.Store.{Node, end, dollar, push, Store, tree_of, tree, node_at, at, nowhere, find}
 use Rattle.arena.specs.Soundness.{Rise, Full, Sound}
-use Rattle.arena.specs.Trees.{node_sound, node_rise, nodes_differ, find?, find_at, find_none, tree-new, tree-old, tree_node, tree_of_agree}
+use Rattle.arena.specs.Trees.{node_sound, node_rise, nodes_differ, find?, find_at, find_none, tree_new, tree_old, tree_node, tree_of_agree}
 use Rattle.arena.specs.Place.{listed, intern, place_e, place}
 
 -- ---- interning a list that has an entry
@@ -18,54 +18,54 @@ listed_full dollar h = refl
 listed_full (push r p n) h = refl
 
 module _ (n : Node) (s : Store) (h : Full n) where
-  pub intern-found : (c : ℕ) → find n s ≡ at c → intern s n ≡ (c, s)
+  pub intern_found : (c : ℕ) → find n s ≡ at c → intern s n ≡ (c, s)
   unfolding intern
-  intern-found c e = rw (listed_full n h, e, intern)
+  intern_found c e = rw (listed_full n h, e, intern)
 
-  pub intern-made : find n s ≡ nowhere → intern s n ≡ (length s, n ∷ s)
+  pub intern_made : find n s ≡ nowhere → intern s n ≡ (length s, n ∷ s)
   unfolding intern
-  intern-made e = rw (listed_full n h, e, intern, listed_full n h)
+  intern_made e = rw (listed_full n h, e, intern, listed_full n h)
 
 -- ---- what is there makes nothing
 
 module _ (s : Store) (w : Sound s) where
-  pub intern-self : (c : ℕ) → c < length s → intern s (node_at s c) ≡ (c, s)
-  intern-self c h =
+  pub intern_self : (c : ℕ) → c < length s → intern s (node_at s c) ≡ (c, s)
+  intern_self c h =
       find? (node_at s c) s
       (λ d e. let k : (d < length s) × (node_at s d ≡ node_at s c) = find_at _ s d e in
       let q : d ≡ c = nodes_differ s w d c k.0 h k.1 in
-      intern-found _ s (node_sound s w c h).1 d e ∙ (cc))
+      intern_found _ s (node_sound s w c h).1 d e ∙ (cc))
       (λ e. absurd (find_none _ s e c h refl))
 
-  pub placeE-there : (F : Forest) (n : Node) (lo : ℕ) → Rise lo (length s) n → tree_of (tree s) n ≡ F → place_e s F ≡ (n, s)
+  pub place_e_there : (F : Forest) (n : Node) (lo : ℕ) → Rise lo (length s) n → tree_of (tree s) n ≡ F → place_e s F ≡ (n, s)
   unfolding place_e tree_of
-  placeE-there none end lo v e = refl
-  placeE-there none dollar lo v e = cc
-  placeE-there none (push q p k) lo v e = cc
-  placeE-there mark end lo v e = cc
-  placeE-there mark dollar lo v e = refl
-  placeE-there mark (push q p k) lo v e = cc
-  placeE-there (over r b t) end lo v e = cc
-  placeE-there (over r b t) dollar lo v e = cc
-  placeE-there (over r b t) (push q p k) lo v e =
+  place_e_there none end lo v e = refl
+  place_e_there none dollar lo v e = cc
+  place_e_there none (push q p k) lo v e = cc
+  place_e_there mark end lo v e = cc
+  place_e_there mark dollar lo v e = refl
+  place_e_there mark (push q p k) lo v e = cc
+  place_e_there (over r b t) end lo v e = cc
+  place_e_there (over r b t) dollar lo v e = cc
+  place_e_there (over r b t) (push q p k) lo v e =
       let states : q ≡ r = cc in
       let beneath : tree s p ≡ b = cc in
       let rests : tree_of (tree s) k ≡ t = cc in
-      let hb : place_e s b ≡ (node_at s p, s) = placeE-there b (node_at s p) 0 (node_rise s w p v.1) (sym (tree_node s w p v.1) ∙ beneath) in
-      let ht : place_e s t ≡ (k, s) = placeE-there t k (suc q) v.2 rests in
-      rw (hb, intern-self p v.1, ht, states)
+      let hb : place_e s b ≡ (node_at s p, s) = place_e_there b (node_at s p) 0 (node_rise s w p v.1) (sym (tree_node s w p v.1) ∙ beneath) in
+      let ht : place_e s t ≡ (k, s) = place_e_there t k (suc q) v.2 rests in
+      rw (hb, intern_self p v.1, ht, states)
 
   -- placing a set that a context stands for finds that context and makes nothing
-  pub place-there : (c : ℕ) (F : Forest) → c < length s → tree s c ≡ F → place s F ≡ (c, s)
+  pub place_there : (c : ℕ) (F : Forest) → c < length s → tree s c ≡ F → place s F ≡ (c, s)
   unfolding place
-  place-there c F h e = rw (placeE-there F (node_at s c) 0 (node_rise s w c h) (sym (tree_node s w c h) ∙ e)) (intern-self c h)
+  place_there c F h e = rw (place_e_there F (node_at s c) 0 (node_rise s w c h) (sym (tree_node s w c h) ∙ e)) (intern_self c h)
 
   -- a state over a context: one entry to intern
-  pub place-single : (r p : ℕ) → p < length s → place s (over r (tree s p) none) ≡ intern s (push r p end)
+  pub place_single : (r p : ℕ) → p < length s → place s (over r (tree s p) none) ≡ intern s (push r p end)
   unfolding place place_e
-  place-single r p h =
-      let hp : place_e s (tree s p) ≡ (node_at s p, s) = placeE-there (tree s p) (node_at s p) 0 (node_rise s w p h) (sym (tree_node s w p h)) in
-      rw (hp, intern-self p h)
+  place_single r p h =
+      let hp : place_e s (tree s p) ≡ (node_at s p, s) = place_e_there (tree s p) (node_at s p) 0 (node_rise s w p h) (sym (tree_node s w p h)) in
+      rw (hp, intern_self p h)
 
 -- ---- the store only grows, and older contexts keep their meaning
 
@@ -83,7 +83,7 @@ grew_length s u g = omega (arith, simp length-append at (ap length g.1))
 
 tree_more : (k s : Store) (c : ℕ) → c < length s → tree (k ++ s) c ≡ tree s c
 tree_more [] s c h = refl
-tree_more (n ∷ k) s c h = tree-old n (k ++ s) c (omega (arith, length-append k s)) ∙ tree_more k s c h
+tree_more (n ∷ k) s c h = tree_old n (k ++ s) c (omega (arith, length-append k s)) ∙ tree_more k s c h
 
 pub grew_tree : (s u : Store) → Grew s u → (c : ℕ) → c < length s → tree u c ≡ tree s c
 grew_tree s u g c h = rw g.1 (tree_more g.0 s c h)
@@ -140,9 +140,9 @@ intern_holds s n F w h =
     find? n s
     (λ c e.
     let k : (c < length s) × (node_at s c ≡ n) = find_at n s c e in
-    rw (intern-found n s full c e) (record { sound = w.sound; known = k.0; is = tree_node s w.sound c k.0 ∙ rw k.1 w.is }))
-    (λ e. rw (intern-made n s full e)
-    (record { sound = (w.rise, full, e, w.sound); known = omega arith; is = tree-new n s (length s) refl ∙ w.is }))
+    rw (intern_found n s full c e) (record { sound = w.sound; known = k.0; is = tree_node s w.sound c k.0 ∙ rw k.1 w.is }))
+    (λ e. rw (intern_made n s full e)
+    (record { sound = (w.rise, full, e, w.sound); known = omega arith; is = tree_new n s (length s) refl ∙ w.is }))
 
 pub place_e_holds : (lo : ℕ) (s : Store) (F : Forest) → Sound s → From lo F → HoldsE lo (place_e s F).1 (place_e s F).0 F
 unfolding place_e tree_of

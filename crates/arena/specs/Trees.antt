@@ -45,21 +45,21 @@ same? {X = X} a b equal other = go (same a b) refl
 -- ---- the newest record, and the older ones
 
 module _ (n : Node) (s : Store) (c : ℕ) where
-  pub node-new : c ≡ length s → node_at (n ∷ s) c ≡ n
+  pub node_new : c ≡ length s → node_at (n ∷ s) c ≡ n
   unfolding node_at
-  node-new h = rw (eq-eqb c (length s) h, node_at)
+  node_new h = rw (eq-eqb c (length s) h, node_at)
 
-  pub node-old : c < length s → node_at (n ∷ s) c ≡ node_at s c
+  pub node_old : c < length s → node_at (n ∷ s) c ≡ node_at s c
   unfolding node_at
-  node-old h = rw (ne_eqb c (length s) (omega arith), node_at)
+  node_old h = rw (ne_eqb c (length s) (omega arith), node_at)
 
-  pub tree-new : c ≡ length s → tree (n ∷ s) c ≡ tree_of (tree s) n
+  pub tree_new : c ≡ length s → tree (n ∷ s) c ≡ tree_of (tree s) n
   unfolding tree
-  tree-new h = rw (eq-eqb c (length s) h, tree)
+  tree_new h = rw (eq-eqb c (length s) h, tree)
 
-  pub tree-old : c < length s → tree (n ∷ s) c ≡ tree s c
+  pub tree_old : c < length s → tree (n ∷ s) c ≡ tree s c
   unfolding tree
-  tree-old h = rw (ne_eqb c (length s) (omega arith), tree)
+  tree_old h = rw (ne_eqb c (length s) (omega arith), tree)
 
 -- ---- what `find` says
 
@@ -83,16 +83,16 @@ find_none n (x ∷ s) e c h k =
     same? n x
     (λ q. at_nowhere (length s) (sym (find_new n x s q) ∙ e))
     (λ q. two c (length s)
-    (λ d. false≢true (sym q ∙ (rw (sym (node-new x s c d) ∙ k) (same_self n))))
-    (λ d. find_none n s (sym (find_old n x s q) ∙ e) c (omega arith) (sym (node-old x s c (omega arith)) ∙ k)))
+    (λ d. false≢true (sym q ∙ (rw (sym (node_new x s c d) ∙ k) (same_self n))))
+    (λ d. find_none n s (sym (find_old n x s q) ∙ e) c (omega arith) (sym (node_old x s c (omega arith)) ∙ k)))
 
 pub find_at : (n : Node) (s : Store) (c : ℕ) → find n s ≡ at c → (c < length s) × (node_at s c ≡ n)
 unfolding find
 find_at n [] c e = absurd (at_nowhere c (sym e))
 find_at n (x ∷ s) c e =
     same? n x
-    (λ q. let d : c ≡ length s = sym (at_inj _ _ (sym (find_new n x s q) ∙ e)) in (omega arith, node-new x s c d ∙ sym q))
-    (λ q. let r : (c < length s) × (node_at s c ≡ n) = find_at n s c (sym (find_old n x s q) ∙ e) in (omega arith, node-old x s c r.0 ∙ r.1))
+    (λ q. let d : c ≡ length s = sym (at_inj _ _ (sym (find_new n x s q) ∙ e)) in (omega arith, node_new x s c d ∙ sym q))
+    (λ q. let r : (c < length s) × (node_at s c ≡ n) = find_at n s c (sym (find_old n x s q) ∙ e) in (omega arith, node_old x s c r.0 ∙ r.1))
 
 -- a record is somewhere in the store, or nowhere
 pub find? {ℓ} : {X : Type ℓ} (n : Node) (s : Store) → ((c : ℕ) → find n s ≡ at c → X) → (find n s ≡ nowhere → X) → X
@@ -113,8 +113,8 @@ pub node_sound : (s : Store) → Sound s → (c : ℕ) → c < length s → Rise
 node_sound [] w c h = absurd (omega arith)
 node_sound (n ∷ s) w c h =
     two c (length s)
-    (λ d. rw (node-new n s c d, d) (w.0, w.1))
-    (λ d. rw (node-old n s c (omega arith)) (node_sound s w.3 c (omega arith)))
+    (λ d. rw (node_new n s c d, d) (w.0, w.1))
+    (λ d. rw (node_old n s c (omega arith)) (node_sound s w.3 c (omega arith)))
 
 -- a record's states rise, and its parents are contexts of the store
 pub node_rise : (s : Store) → Sound s → (c : ℕ) → c < length s → Rise 0 (length s) (node_at s c)
@@ -125,10 +125,10 @@ nodes_differ [] w a b h k e = omega arith
 nodes_differ (n ∷ s) w a b h k e =
     two a (length s)
     (λ i. two b (length s) (λ j. omega arith)
-    (λ j. absurd (find_none n s w.2 b (omega arith) (sym (node-old n s b (omega arith)) ∙ sym e ∙ node-new n s a i))))
+    (λ j. absurd (find_none n s w.2 b (omega arith) (sym (node_old n s b (omega arith)) ∙ sym e ∙ node_new n s a i))))
     (λ i. two b (length s)
-    (λ j. absurd (find_none n s w.2 a (omega arith) (sym (node-old n s a (omega arith)) ∙ e ∙ node-new n s b j)))
-    (λ j. nodes_differ s w.3 a b (omega arith) (omega arith) (sym (node-old n s a (omega arith)) ∙ e ∙ node-old n s b (omega arith))))
+    (λ j. absurd (find_none n s w.2 a (omega arith) (sym (node_old n s a (omega arith)) ∙ e ∙ node_new n s b j)))
+    (λ j. nodes_differ s w.3 a b (omega arith) (omega arith) (sym (node_old n s a (omega arith)) ∙ e ∙ node_old n s b (omega arith))))
 
 -- ---- a context's set is that of its record over the contexts of the same store
 
@@ -142,10 +142,10 @@ pub tree_node : (s : Store) → Sound s → (c : ℕ) → c < length s → tree 
 tree_node [] w c h = absurd (omega arith)
 tree_node (n ∷ s) w c h =
     two c (length s)
-    (λ d. rw (tree-new n s c d, node-new n s c d) (tree_of_agree _ _ 0 (length s) n w.0 (λ p l. sym (tree-old n s p l))))
+    (λ d. rw (tree_new n s c d, node_new n s c d) (tree_of_agree _ _ 0 (length s) n w.0 (λ p l. sym (tree_old n s p l))))
     (λ d. let l : c < length s = omega arith in
-    rw (tree-old n s c l, node-old n s c l, tree_node s w.3 c l)
-    (tree_of_agree _ _ 0 c (node_at s c) (node_sound s w.3 c l).0 (λ p k. sym (tree-old n s p (omega arith)))))
+    rw (tree_old n s c l, node_old n s c l, tree_node s w.3 c l)
+    (tree_of_agree _ _ 0 c (node_at s c) (node_sound s w.3 c l).0 (λ p k. sym (tree_old n s p (omega arith)))))
 
 -- ---- the sets are in canonical form, with a stack in each
 
@@ -165,8 +165,8 @@ pub tree_canon : (s : Store) → Sound s → (c : ℕ) → c < length s → Some
 tree_canon [] w c h = absurd (omega arith)
 tree_canon (n ∷ s) w c h =
     two c (length s)
-    (λ d. rw (tree-new n s c d) (tree_of_some _ n w.1, tree_of_from _ 0 (length s) n w.0 (λ p l. tree_canon s w.3 p l)))
-    (λ d. rw (tree-old n s c (omega arith)) (tree_canon s w.3 c (omega arith)))
+    (λ d. rw (tree_new n s c d) (tree_of_some _ n w.1, tree_of_from _ 0 (length s) n w.0 (λ p l. tree_canon s w.3 p l)))
+    (λ d. rw (tree_old n s c (omega arith)) (tree_canon s w.3 c (omega arith)))
 
 -- ---- equal sets have equal numbers
 
@@ -199,7 +199,7 @@ tree_inj [] w a b h k e = omega arith
 tree_inj (n ∷ s) w a b h k e =
     two a (length s)
     (λ i. two b (length s) (λ j. omega arith)
-    (λ j. absurd (not_older n s w (tree_inj s w.3) b (omega arith) (sym (tree-new n s a i) ∙ e ∙ tree-old n s b (omega arith)))))
+    (λ j. absurd (not_older n s w (tree_inj s w.3) b (omega arith) (sym (tree_new n s a i) ∙ e ∙ tree_old n s b (omega arith)))))
     (λ i. two b (length s)
-    (λ j. absurd (not_older n s w (tree_inj s w.3) a (omega arith) (sym (tree-new n s b j) ∙ sym e ∙ tree-old n s a (omega arith))))
-    (λ j. tree_inj s w.3 a b (omega arith) (omega arith) (sym (tree-old n s a (omega arith)) ∙ e ∙ tree-old n s b (omega arith))))
+    (λ j. absurd (not_older n s w (tree_inj s w.3) a (omega arith) (sym (tree_new n s b j) ∙ sym e ∙ tree_old n s a (omega arith))))
+    (λ j. tree_inj s w.3 a b (omega arith) (omega arith) (sym (tree_old n s a (omega arith)) ∙ e ∙ tree_old n s b (omega arith))))

@@ -5,7 +5,7 @@ use Rattle.layout.specs.Layout.{most_contexts, scratch_words}
 use Rattle.words.specs.Lent.{cleared_range}
 use Rattle.work.specs.Counted.{Result, keep, most_merges, most_results}
 use Rattle.work.specs.Counted.Laws.{result}
-use Rattle.work.specs.KeptWords.{bit, keptIn}
+use Rattle.work.specs.KeptWords.{bit, kept_in}
 
 -- ---- the words by name
 
@@ -28,7 +28,7 @@ bucket_head z b = get_or z (4096 + b) 0
 
 -- the results kept, the newest first
 abbrev pub kept_of : List ℕ → List Result
-kept_of z = keptIn 2048 z (kept_count z)
+kept_of z = kept_in 2048 z (kept_count z)
 
 -- ---- keys and buckets
 

@@ -3,7 +3,7 @@ use Rattle.std.specs.Prelude.{◌≡◌, ◌≢◌, List, ℕ, ◌<◌, ◌≤�
 use Rattle.std.proofs.Math.Path.{sym, ap}
 use Rattle.std.proofs.Common.{◌∙◌, arith, get_or-set_other}
 use Rattle.std.proofs.Math.Seq.{get_or-set_same}
-use Rattle.work.specs.KeptWords.{keptIn, kept_frame}
+use Rattle.work.specs.KeptWords.{kept_in, kept_frame}
 use Rattle.cache.specs.Cache.{kept_count, merges_counted, kept_of, result_word, result_link, bucket_head, bucket_of, bucket_at, newest, CacheSound}
 use Rattle.cache.specs.Chain.{newest_frame}
 
@@ -18,11 +18,11 @@ module _ (z u : List ℕ) (same : (i : ℕ) → 2048 ≤ i → i < 7936 → get_
 
   pub kept_same : kept_of u ≡ kept_of z
   unfolding result_word
-  kept_same = ap (keptIn 2048 u) count_same ∙ kept_frame 2048 z u (kept_count z) word_same
+  kept_same = ap (kept_in 2048 u) count_same ∙ kept_frame 2048 z u (kept_count z) word_same
 
-  pub cache-frame : CacheSound u
+  pub cache_frame : CacheSound u
   unfolding result_link bucket_head
-  cache-frame = record {
+  cache_frame = record {
     few = omega (arith, count_same, v.few);
     small = λ i h. let k : i < kept_count z = omega (arith, count_same) in rw (word_same i k) (v.small i k);
     heads = λ b h.
@@ -45,15 +45,15 @@ merges_same z u e = e
 -- ---- a merge counted
 
 module _ (z : List ℕ) (x : ℕ) where
-  count-beside : (i : ℕ) → i ≢ 16337 → get_or (set z 16337 x) i 0 ≡ get_or z i 0
-  count-beside i h = rw get_or-set_other
+  count_beside : (i : ℕ) → i ≢ 16337 → get_or (set z 16337 x) i 0 ≡ get_or z i 0
+  count_beside i h = rw get_or-set_other
 
-  pub counted-sound : CacheSound z → CacheSound (set z 16337 x)
-  counted-sound v = cache-frame z (set z 16337 x) (λ i h k. count-beside i (omega arith)) (count-beside 16336 (omega arith)) v
+  pub counted_sound : CacheSound z → CacheSound (set z 16337 x)
+  counted_sound v = cache_frame z (set z 16337 x) (λ i h k. count_beside i (omega arith)) (count_beside 16336 (omega arith)) v
 
-  pub counted-kept : CacheSound z → kept_of (set z 16337 x) ≡ kept_of z
-  counted-kept v = kept_same z (set z 16337 x) (λ i h k. count-beside i (omega arith)) (count-beside 16336 (omega arith)) v
+  pub counted_kept : CacheSound z → kept_of (set z 16337 x) ≡ kept_of z
+  counted_kept v = kept_same z (set z 16337 x) (λ i h k. count_beside i (omega arith)) (count_beside 16336 (omega arith)) v
 
-  pub counted-merges : 16337 < length z → merges_counted (set z 16337 x) ≡ x
+  pub counted_merges : 16337 < length z → merges_counted (set z 16337 x) ≡ x
   unfolding merges_counted
-  counted-merges h = rw get_or-set_same
+  counted_merges h = rw get_or-set_same

@@ -9,15 +9,15 @@ use Rattle.std.proofs.Math.ListN.{length, length-set}
 use Rattle.std.proofs.Math.Seq.{get_or-set_same, get_or-set_other}
 use Rattle.cases.specs.Numbers.{two, below?}
 use Rattle.words.specs.Lent.{cleared_range}
-use Rattle.words.specs.Lent.Laws.{length-clearedRange, clearedRange-before, clearedRange-inside, clearedRange-after}
+use Rattle.words.specs.Lent.Laws.{length_cleared_range, cleared_range_before, cleared_range_inside, cleared_range_after}
 use Rattle.work.specs.Counted.{Result}
 use Rattle.work.specs.Counted.Laws.{result}
-use Rattle.work.specs.Equations.{keep-more, keep-full}
-use Rattle.work.specs.KeptWords.{result_in, read_back, keptIn, kept_frame, kept-length}
+use Rattle.work.specs.Equations.{keep_more, keep_full}
+use Rattle.work.specs.KeptWords.{result_in, read_back, kept_in, kept_frame, kept_length}
 use Rattle.cache.specs.Cache.{kept_count, merges_counted, kept_of, result_word, result_link, bucket_head, key_of, bucket_of, bucket_at, newest, CacheSound, Asked}
 use Rattle.cache.specs.Cache.{Emptied, Remembered, cleared_cache, put_result}
 use Rattle.cache.specs.Keys.{sides_small}
-use Rattle.cache.specs.Chain.{newest-here, newest-older, newest_frame}
+use Rattle.cache.specs.Chain.{newest_here, newest_older, newest_frame}
 
 bucket_small : (k : ℕ) → bucket_of k < 1024
 unfolding bucket_of
@@ -26,13 +26,13 @@ bucket_small k = omega arith
 -- ---- the words of a result put at place i
 
 module _ (z : List ℕ) (i k c : ℕ) (l : length z ≡ 16384) (h : i < 1024) where
-  put-length : length (put_result z i k c) ≡ length z
+  put_length : length (put_result z i k c) ≡ length z
   unfolding put_result
-  put-length = simp length-set
+  put_length = simp length-set
 
-  put-beside : (j : ℕ) → j ≢ 2048 + i → j ≢ 3072 + i → j ≢ 4096 + bucket_of k → j ≢ 16336 → get_or (put_result z i k c) j 0 ≡ get_or z j 0
+  put_beside : (j : ℕ) → j ≢ 2048 + i → j ≢ 3072 + i → j ≢ 4096 + bucket_of k → j ≢ 16336 → get_or (put_result z i k c) j 0 ≡ get_or z j 0
   unfolding put_result
-  put-beside j p q r s = rw (get_or-set_other, get_or-set_other, get_or-set_other, get_or-set_other)
+  put_beside j p q r s = rw (get_or-set_other, get_or-set_other, get_or-set_other, get_or-set_other)
 
   put_count : kept_count (put_result z i k c) ≡ suc i
   unfolding kept_count put_result
@@ -41,18 +41,18 @@ module _ (z : List ℕ) (i k c : ℕ) (l : length z ≡ 16384) (h : i < 1024) wh
       simp length-set (omega arith) in
       rw get_or-set_same (omega arith)
 
-  put-head : bucket_head (put_result z i k c) (bucket_of k) ≡ suc i
+  put_head : bucket_head (put_result z i k c) (bucket_of k) ≡ suc i
   unfolding bucket_head put_result
-  put-head =
+  put_head =
       let s = bucket_small k in
       let o : 4096 + bucket_of k ≢ 16336 = omega arith in
       let x : 4096 + bucket_of k < length (set (set z (2048 + i) (k * 512 + c)) (3072 + i) (bucket_head z (bucket_of k))) =
       simp length-set (omega arith) in
       rw (get_or-set_other, get_or-set_same) (omega arith)
 
-  put-link : result_link (put_result z i k c) i ≡ bucket_head z (bucket_of k)
+  put_link : result_link (put_result z i k c) i ≡ bucket_head z (bucket_of k)
   unfolding result_link put_result
-  put-link =
+  put_link =
       let o : 3072 + i ≢ 16336 = omega arith in
       let p : 3072 + i ≢ 4096 + bucket_of k = omega arith in
       let x : 3072 + i < length (set z (2048 + i) (k * 512 + c)) = simp length-set (omega arith) in
@@ -67,113 +67,113 @@ module _ (z : List ℕ) (i k c : ℕ) (l : length z ≡ 16384) (h : i < 1024) wh
       let x : 2048 + i < length z = omega arith in
       rw (get_or-set_other, get_or-set_other, get_or-set_other, get_or-set_same)
 
-  older-word : (j : ℕ) → j < i → result_word (put_result z i k c) j ≡ result_word z j
+  older_word : (j : ℕ) → j < i → result_word (put_result z i k c) j ≡ result_word z j
   unfolding result_word
-  older-word j g = put-beside (2048 + j) (omega arith) (omega arith) (omega arith) (omega arith)
+  older_word j g = put_beside (2048 + j) (omega arith) (omega arith) (omega arith) (omega arith)
 
-  older-link : (j : ℕ) → j < i → result_link (put_result z i k c) j ≡ result_link z j
+  older_link : (j : ℕ) → j < i → result_link (put_result z i k c) j ≡ result_link z j
   unfolding result_link
-  older-link j g = put-beside (3072 + j) (omega arith) (omega arith) (omega arith) (omega arith)
+  older_link j g = put_beside (3072 + j) (omega arith) (omega arith) (omega arith) (omega arith)
 
-  other-head : (b : ℕ) → b < 1024 → (b ≡ bucket_of k → ⊥) → bucket_head (put_result z i k c) b ≡ bucket_head z b
+  other_head : (b : ℕ) → b < 1024 → (b ≡ bucket_of k → ⊥) → bucket_head (put_result z i k c) b ≡ bucket_head z b
   unfolding bucket_head
-  other-head b g d = put-beside (4096 + b) (omega arith) (omega arith) (omega arith) (omega arith)
+  other_head b g d = put_beside (4096 + b) (omega arith) (omega arith) (omega arith) (omega arith)
 
-  put-others : (j : ℕ) → (2048 ≤ j → j < 7936 → ⊥) → j ≢ 16336 → get_or (put_result z i k c) j 0 ≡ get_or z j 0
-  put-others j away p =
+  put_others : (j : ℕ) → (2048 ≤ j → j < 7936 → ⊥) → j ≢ 16336 → get_or (put_result z i k c) j 0 ≡ get_or z j 0
+  put_others j away p =
       let s = bucket_small k in
-      put-beside j
+      put_beside j
       (λ e. away (omega arith) (omega arith)) (λ e. away (omega arith) (omega arith)) (λ e. away (omega arith) (omega arith)) p
 
-  put-merges : merges_counted (put_result z i k c) ≡ merges_counted z
+  put_merges : merges_counted (put_result z i k c) ≡ merges_counted z
   unfolding merges_counted
-  put-merges = put-others 16337 (λ p q. omega arith) (omega arith)
+  put_merges = put_others 16337 (λ p q. omega arith) (omega arith)
 
   -- ---- and its chain
 
-  here-bucket : c < 512 → bucket_at (put_result z i k c) i ≡ bucket_of k
-  here-bucket g = let e : (k * 512 + c) / 512 ≡ k = omega arith in ap (λ (x : ℕ). bucket_of (x / 512)) put_word ∙ ap bucket_of e
+  here_bucket : c < 512 → bucket_at (put_result z i k c) i ≡ bucket_of k
+  here_bucket g = let e : (k * 512 + c) / 512 ≡ k = omega arith in ap (λ (x : ℕ). bucket_of (x / 512)) put_word ∙ ap bucket_of e
 
-  older-newest : (n b : ℕ) → n ≤ i → newest (put_result z i k c) n b ≡ newest z n b
-  older-newest n b g = newest_frame z (put_result z i k c) n b (λ j p. older-word j (omega arith))
+  older_newest : (n b : ℕ) → n ≤ i → newest (put_result z i k c) n b ≡ newest z n b
+  older_newest n b g = newest_frame z (put_result z i k c) n b (λ j p. older_word j (omega arith))
 
 module _ (z : List ℕ) (n k c : ℕ) (l : length z ≡ 16384) (v : CacheSound z) (e : kept_count z ≡ n) (h : n < 1024) (g : c < 512) (small : k < 524288) where
   abbrev u : List ℕ
   u = put_result z n k c
 
-  put-heads : (b : ℕ) → b < 1024 → bucket_head u b ≡ newest u (suc n) b
-  put-heads b p =
+  put_heads : (b : ℕ) → b < 1024 → bucket_head u b ≡ newest u (suc n) b
+  put_heads b p =
       two b (bucket_of k)
-      (λ q. rw q (put-head z n k c l h ∙ sym (newest-here u n (bucket_of k) (here-bucket z n k c l h g))))
-      (λ d. other-head z n k c l h b p d
+      (λ q. rw q (put_head z n k c l h ∙ sym (newest_here u n (bucket_of k) (here_bucket z n k c l h g))))
+      (λ d. other_head z n k c l h b p d
       ∙ v.heads b p
       ∙ ap (λ (j : ℕ). newest z j b) e
-      ∙ sym (older-newest z n k c l h n b (omega arith))
-      ∙ sym (newest-older u n b (λ q. d (sym q ∙ here-bucket z n k c l h g))))
+      ∙ sym (older_newest z n k c l h n b (omega arith))
+      ∙ sym (newest_older u n b (λ q. d (sym q ∙ here_bucket z n k c l h g))))
 
-  put-links : (i : ℕ) → i < suc n → result_link u i ≡ newest u i (bucket_at u i)
-  put-links i p =
+  put_links : (i : ℕ) → i < suc n → result_link u i ≡ newest u i (bucket_at u i)
+  put_links i p =
       two i n
       (λ q. rw q
-      (put-link z n k c l h
+      (put_link z n k c l h
       ∙ v.heads (bucket_of k) (bucket_small k)
       ∙ ap (λ (j : ℕ). newest z j (bucket_of k)) e
-      ∙ sym (older-newest z n k c l h n (bucket_of k) (omega arith))
-      ∙ ap (newest u n) (sym (here-bucket z n k c l h g))))
+      ∙ sym (older_newest z n k c l h n (bucket_of k) (omega arith))
+      ∙ ap (newest u n) (sym (here_bucket z n k c l h g))))
       (λ d. let j : i < n = omega arith in
-      older-link z n k c l h i j
+      older_link z n k c l h i j
       ∙ v.links i (omega arith)
-      ∙ sym (older-newest z n k c l h i (bucket_at z i) (omega arith))
-      ∙ ap (λ (x : ℕ). newest u i (bucket_of (x / 512))) (sym (older-word z n k c l h i j)))
+      ∙ sym (older_newest z n k c l h i (bucket_at z i) (omega arith))
+      ∙ ap (λ (x : ℕ). newest u i (bucket_of (x / 512))) (sym (older_word z n k c l h i j)))
 
   put_small : (i : ℕ) → i < suc n → result_word u i < 268435456
   put_small i p =
       two i n
       (λ q. rw (q, put_word z n k c l h) (omega arith))
-      (λ d. let j : i < n = omega arith in rw (older-word z n k c l h i j) (v.small i (omega arith)))
+      (λ d. let j : i < n = omega arith in rw (older_word z n k c l h i j) (v.small i (omega arith)))
 
-  put-sound : CacheSound u
-  put-sound =
+  put_sound : CacheSound u
+  put_sound =
       let t = put_count z n k c l h in
       record {
         few = omega arith;
         small = λ i p. put_small i (omega arith);
-        heads = λ b p. rw t (put-heads b p);
-        links = λ i p. put-links i (omega arith);
+        heads = λ b p. rw t (put_heads b p);
+        links = λ i p. put_links i (omega arith);
       }
 
-  put-kept : kept_of u ≡ result_in (k * 512 + c) ∷ kept_of z
-  unfolding keptIn result_word
-  put-kept =
+  put_kept : kept_of u ≡ result_in (k * 512 + c) ∷ kept_of z
+  unfolding kept_in result_word
+  put_kept =
       rw (put_count z n k c l h, e)
-      (ap (λ (x : ℕ). result_in x ∷ keptIn 2048 u n) (put_word z n k c l h)
-      ∙ ap (λ (t : List Result). result_in (k * 512 + c) ∷ t) (kept_frame 2048 z u n (λ i p. older-word z n k c l h i p)))
+      (ap (λ (x : ℕ). result_in x ∷ kept_in 2048 u n) (put_word z n k c l h)
+      ∙ ap (λ (t : List Result). result_in (k * 512 + c) ∷ t) (kept_frame 2048 z u n (λ i p. older_word z n k c l h i p)))
 
 -- ---- a result is completed
 
 module _ (z : List ℕ) (m : Bool) (a b c : ℕ) (v : Asked z a b) (g : c < 512) where
   -- it is kept
-  pub put-remembered : (k : ℕ) → k ≡ key_of m (min a b) (max a b) → k < 524288 → kept_count z < 1024 → Remembered z m a b c (put_result z (kept_count z) k c)
-  put-remembered k e small h =
+  pub put_remembered : (k : ℕ) → k ≡ key_of m (min a b) (max a b) → k < 524288 → kept_count z < 1024 → Remembered z m a b c (put_result z (kept_count z) k c)
+  put_remembered k e small h =
       let n : ℕ = kept_count z in
       let r : Result = result m (min a b) (max a b) c in
       let s = sides_small a b v.left v.right in
       let back : result_in (k * 512 + c) ≡ r = ap (λ (x : ℕ). result_in (x * 512 + c)) e ∙ read_back m (min a b) (max a b) c s.0 s.1 g in
-      let less : length (kept_of z) < 1024 = omega (arith, kept-length 2048 z n) in
+      let less : length (kept_of z) < 1024 = omega (arith, kept_length 2048 z n) in
       record {
-        sized = put-length z n k c v.sized h;
-        sound = put-sound z n k c v.sized v.sound refl h g small;
-        kept = put-kept z n k c v.sized v.sound refl h g small ∙ ap (λ (y : Result). y ∷ kept_of z) back ∙ sym (keep-more r (kept_of z) less);
-        merges = put-merges z n k c v.sized h;
-        others = put-others z n k c v.sized h;
+        sized = put_length z n k c v.sized h;
+        sound = put_sound z n k c v.sized v.sound refl h g small;
+        kept = put_kept z n k c v.sized v.sound refl h g small ∙ ap (λ (y : Result). y ∷ kept_of z) back ∙ sym (keep_more r (kept_of z) less);
+        merges = put_merges z n k c v.sized h;
+        others = put_others z n k c v.sized h;
       }
 
   -- there are as many as are kept
-  pub none-remembered : 1024 ≤ kept_count z → Remembered z m a b c z
-  none-remembered h = record {
+  pub none_remembered : 1024 ≤ kept_count z → Remembered z m a b c z
+  none_remembered h = record {
     sized = refl;
     sound = v.sound;
-    kept = sym (keep-full (result m (min a b) (max a b) c) (kept_of z) (omega (arith, kept-length 2048 z (kept_count z))));
+    kept = sym (keep_full (result m (min a b) (max a b) c) (kept_of z) (omega (arith, kept_length 2048 z (kept_count z))));
     merges = refl;
     others = λ i p q. refl;
   }
@@ -182,53 +182,53 @@ module _ (z : List ℕ) (m : Bool) (a b c : ℕ) (v : Asked z a b) (g : c < 512)
 
 module _ (z : List ℕ) (l : length z ≡ 16384) where
   range_length : length (cleared_range z 4096 5120) ≡ length z
-  range_length = length-clearedRange z 4096 5120 (omega arith) (omega arith)
+  range_length = length_cleared_range z 4096 5120 (omega arith) (omega arith)
 
-  cleared-count : kept_count (cleared_cache z) ≡ 0
+  cleared_count : kept_count (cleared_cache z) ≡ 0
   unfolding kept_count cleared_cache
-  cleared-count =
+  cleared_count =
       let o : ◌≢◌ {A = ℕ} 16336 16337 = omega arith in
       let x : 16336 < length (cleared_range z 4096 5120) = omega (arith, range_length) in
       rw (get_or-set_other, get_or-set_same)
 
-  cleared-merges : merges_counted (cleared_cache z) ≡ 0
+  cleared_merges : merges_counted (cleared_cache z) ≡ 0
   unfolding merges_counted cleared_cache
-  cleared-merges =
+  cleared_merges =
       let x : 16337 < length (set (cleared_range z 4096 5120) 16336 0) = simp length-set (omega (arith, range_length)) in
       rw get_or-set_same
 
-  cleared-others : (i : ℕ) → (2048 ≤ i → i < 7936 → ⊥) → i ≢ 16336 → i ≢ 16337 → get_or (cleared_cache z) i 0 ≡ get_or z i 0
+  cleared_others : (i : ℕ) → (2048 ≤ i → i < 7936 → ⊥) → i ≢ 16336 → i ≢ 16337 → get_or (cleared_cache z) i 0 ≡ get_or z i 0
   unfolding cleared_cache
-  cleared-others i away p q =
+  cleared_others i away p q =
       rw (get_or-set_other, get_or-set_other)
       (below? i 4096
-      (λ h. clearedRange-before z 4096 5120 (omega arith) (omega arith) i h)
+      (λ h. cleared_range_before z 4096 5120 (omega arith) (omega arith) i h)
       (λ h. below? i 5120
       (λ k. absurd (away (omega arith) (omega arith)))
-      (λ k. clearedRange-after z 4096 5120 (omega arith) (omega arith) i k)))
+      (λ k. cleared_range_after z 4096 5120 (omega arith) (omega arith) i k)))
 
-  cleared-head : (b : ℕ) → b < 1024 → bucket_head (cleared_cache z) b ≡ 0
+  cleared_head : (b : ℕ) → b < 1024 → bucket_head (cleared_cache z) b ≡ 0
   unfolding bucket_head cleared_cache
-  cleared-head b h =
+  cleared_head b h =
       let o : 4096 + b ≢ 16336 = omega arith in
       let p : 4096 + b ≢ 16337 = omega arith in
-      rw (get_or-set_other, get_or-set_other) (clearedRange-inside z 4096 5120 (omega arith) (omega arith) (4096 + b) (omega arith) (omega arith))
+      rw (get_or-set_other, get_or-set_other) (cleared_range_inside z 4096 5120 (omega arith) (omega arith) (4096 + b) (omega arith) (omega arith))
 
-  cleared-length : length (cleared_cache z) ≡ length z
+  cleared_length : length (cleared_cache z) ≡ length z
   unfolding cleared_cache
-  cleared-length = simp length-set range_length
+  cleared_length = simp length-set range_length
 
-  pub cleared-emptied : Emptied z (cleared_cache z)
-  unfolding newest keptIn
-  cleared-emptied = record {
-    sized = cleared-length;
+  pub cleared_emptied : Emptied z (cleared_cache z)
+  unfolding newest kept_in
+  cleared_emptied = record {
+    sized = cleared_length;
     sound = record {
-      few = omega (arith, cleared-count);
-      small = λ i h. absurd (omega (arith, cleared-count));
-      heads = λ b h. rw cleared-count (cleared-head b h);
-      links = λ i h. absurd (omega (arith, cleared-count));
+      few = omega (arith, cleared_count);
+      small = λ i h. absurd (omega (arith, cleared_count));
+      heads = λ b h. rw cleared_count (cleared_head b h);
+      links = λ i h. absurd (omega (arith, cleared_count));
     };
-    kept = rw cleared-count;
-    merges = cleared-merges;
-    others = cleared-others;
+    kept = rw cleared_count;
+    merges = cleared_merges;
+    others = cleared_others;
   }

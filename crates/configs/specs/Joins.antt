@@ -22,27 +22,27 @@ use Rattle.sets.specs.Layout.{most_configs, set_words_length, config_at, config_
 use Rattle.sets.specs.Sets.{Set, same_keys, with_configs, joined, joined_all, has_semantic, dips}
 use Rattle.sets.specs.Words.{flags_of, set_words, configs_in, set_of}
 use Rattle.sets.specs.Flags.{flags_are}
-use Rattle.sets.specs.Listed.{at-any}
+use Rattle.sets.specs.Listed.{at_any}
 use Rattle.sets.specs.Held.{HeldSet, held_words}
-use Rattle.sets.specs.Sound.{sound-held}
-use Rattle.sets.specs.Joined.{joined_length, semantic-joined, dips-joined, semantic_known, joined-configs}
+use Rattle.sets.specs.Sound.{sound_held}
+use Rattle.sets.specs.Joined.{joined_length, semantic_joined, dips_joined, semantic_known, joined_configs}
 use Rattle.store.specs.Checks.{unless}
-use Rattle.store.specs.Checks.Laws.{unless-first, unless-next}
+use Rattle.store.specs.Checks.Laws.{unless_first, unless_next}
 use Rattle.sets.specs.Calls.{refused, added, set_left, set_left_after, adds_after, refusal}
 use Rattle.setcheck.specs.Flags.{joined_flags, joined_four}
-use Rattle.configs.specs.Writes.{put_config, put-length, put-after, put-flags, put_count, put-here, put_other, head-config, head-other}
+use Rattle.configs.specs.Writes.{put_config, put_length, put_after, put_flags, put_count, put_here, put_other, head_config, head_other}
 use Rattle.configs.specs.Adding.{Joinable, join_to}
 
 -- ---- what the merge has left
 
 module _ (w : List ℕ) (o : Outcome ℕ) (P : ℕ × Store) where
-  over-is : too_much o ≡ true → worked w o P ≡ leaves (notMade 12) w zeros
+  over_is : too_much o ≡ true → worked w o P ≡ leaves (notMade 12) w zeros
   unfolding worked
-  over-is e = rw (e, worked)
+  over_is e = rw (e, worked)
 
-  pub made-is : too_much o ≡ false → fits P.1 ≡ true → worked w o P ≡ gives_after (count_of o) (store_of w) P
+  pub made_is : too_much o ≡ false → fits P.1 ≡ true → worked w o P ≡ gives_after (count_of o) (store_of w) P
   unfolding worked
-  made-is e f = rw (e, f, worked)
+  made_is e f = rw (e, f, worked)
 
   full_is : too_much o ≡ false → fits P.1 ≡ false → worked w o P ≡ leaves (notMade 6) w zeros
   unfolding worked
@@ -69,12 +69,12 @@ module _ (w : List ℕ) (o : Outcome ℕ) (P : ℕ × Store) where
         let z : ◌≡◌ {A = ℕ} 0 1 = cc in
         omega arith
 
-    pub merge-made : (c n k : ℕ) → leaves_after n k (context c) w' z' ≡ worked w o P → MergeMade c n k
-    merge-made c n k e =
+    pub merge_made : (c n k : ℕ) → leaves_after n k (context c) w' z' ≡ worked w o P → MergeMade c n k
+    merge_made c n k e =
         worked?
-        (λ t. absurd (not_made c n k 12 (e ∙ over-is t)))
+        (λ t. absurd (not_made c n k 12 (e ∙ over_is t)))
         (λ t f.
-        let q : leaves_after n k (context c) w' z' ≡ gives_after (count_of o) (store_of w) P = e ∙ made-is t f in
+        let q : leaves_after n k (context c) w' z' ≡ gives_after (count_of o) (store_of w) P = e ∙ made_is t f in
         let r : context c ≡ context P.0 = ap (λ (l : Left). l.reply) q in
         record {
           light = t;
@@ -96,8 +96,8 @@ joined_flags_lem S x c e =
     ∙ joined_four S.full (has_semantic S.configs) (dips S.configs) S.closed x
     ∙ rw (
       flags_are (with_configs S (joined_all x c S.configs)),
-      semantic-joined x c S.configs,
-      dips-joined x c S.configs,
+      semantic_joined x c S.configs,
+      dips_joined x c S.configs,
       semantic_known x S.configs e,
       e,
     )
@@ -109,67 +109,67 @@ module _ {w v z : List ℕ} {i : ℕ} {x : Config} (j : Joinable w v z i x) wher
   S = set_of v
 
   holds : HeldSet v (set_of v)
-  holds = sound-held (contexts w) v j.addable.ready.sound j.addable.ready.sized
+  holds = sound_held (contexts w) v j.addable.ready.sound j.addable.ready.sized
 
   pub join_live : Live w z
   join_live = ready_live w z j.addable.ready.store
 
-  pub join-known : (config_at v i).context < contexts w
-  join-known = j.addable.ready.sound.known i j.here
+  pub join_known : (config_at v i).context < contexts w
+  join_known = j.addable.ready.sound.known i j.here
 
-  pub join-place : i < most_configs
-  join-place = omega (arith, j.here, j.addable.ready.sound.counted)
+  pub join_place : i < most_configs
+  join_place = omega (arith, j.here, j.addable.ready.sound.counted)
 
-  known-key : any (same_keys x) (configs_in v (config_count v)) ≡ true
-  known-key = at-any (same_keys x) v (config_count v) i j.here j.same
+  known_key : any (same_keys x) (configs_in v (config_count v)) ≡ true
+  known_key = at_any (same_keys x) v (config_count v) i j.here j.same
 
   module _ (c : ℕ) (y : Config) (ey : y ≡ joined x c (config_at v i)) (b : ℕ) (eb : b ≡ joined_flags (flag_word v) x) where
     put : List ℕ
     put = put_config v i y
 
-    put-sized : length put ≡ set_words_length
+    put_sized : length put ≡ set_words_length
     unfolding put
-    put-sized = put-length v i y ∙ holds.sized
+    put_sized = put_length v i y ∙ holds.sized
 
-    configs-now : configs_in (set put 1 b) (config_count v) ≡ joined_all x c (configs_in v (config_count v))
+    configs_now : configs_in (set put 1 b) (config_count v) ≡ joined_all x c (configs_in v (config_count v))
     unfolding put
-    configs-now =
-        joined-configs j.addable.ready.sound x i j.here j.same c (set put 1 b)
-        (head-config put 1 b (omega arith) i ∙ put-here v i y holds.sized join-place ∙ ey)
-        (λ k d. head-config put 1 b (omega arith) k ∙ put_other v i y k d)
+    configs_now =
+        joined_configs j.addable.ready.sound x i j.here j.same c (set put 1 b)
+        (head_config put 1 b (omega arith) i ∙ put_here v i y holds.sized join_place ∙ ey)
+        (λ k d. head_config put 1 b (omega arith) k ∙ put_other v i y k d)
 
-    join-held : HeldSet (set put 1 b) (with_configs S (joined_all x c S.configs))
+    join_held : HeldSet (set put 1 b) (with_configs S (joined_all x c S.configs))
     unfolding put config_count flag_word
-    join-held =
+    join_held =
         let n : length (joined_all x c S.configs) ≡ config_count v = joined_length x c S.configs ∙ sym holds.count in
         record {
-          sized = length-set put 1 b ∙ put-sized;
+          sized = length-set put 1 b ∙ put_sized;
           few = omega (arith, holds.few, holds.count);
           count = get_or-set_other put 1 0 b 0 (omega arith) ∙ put_count v i y ∙ sym n;
-          flags = get_or-set_same put 1 b 0 (omega (arith, put-sized)) ∙ eb ∙ ap (λ (m : ℕ). joined_flags m x) holds.flags ∙ joined_flags_lem S x c known-key;
-          configs = ap (configs_in (set put 1 b)) n ∙ configs-now;
+          flags = get_or-set_same put 1 b 0 (omega (arith, put_sized)) ∙ eb ∙ ap (λ (m : ℕ). joined_flags m x) holds.flags ∙ joined_flags_lem S x c known_key;
+          configs = ap (configs_in (set put 1 b)) n ∙ configs_now;
           unused = λ m p q.
-              head-other put 1 b (omega arith) m (omega arith) ∙ put-after v i y m (omega (arith, n, j.here)) ∙ holds.unused m (omega (arith, holds.count)) q;
+              head_other put 1 b (omega arith) m (omega arith) ∙ put_after v i y m (omega (arith, n, j.here)) ∙ holds.unused m (omega (arith, holds.count)) q;
         }
 
-    pub join-words : set (put_config v i y) 1 b ≡ set_words (with_configs S (joined_all x c S.configs))
+    pub join_words : set (put_config v i y) 1 b ≡ set_words (with_configs S (joined_all x c S.configs))
     unfolding put
-    join-words = held_words (set put 1 b) (with_configs S (joined_all x c S.configs)) join-held
+    join_words = held_words (set put 1 b) (with_configs S (joined_all x c S.configs)) join_held
 
   -- ---- the call
 
   module _ (o : Outcome ℕ) (P : ℕ × Store) (w' z' : List ℕ) where
-    over-joined : too_much o ≡ true → join_to w v x o P ≡ set_left (refused 12) w v zeros
+    over_joined : too_much o ≡ true → join_to w v x o P ≡ set_left (refused 12) w v zeros
     unfolding join_to refusal
-    over-joined t = unless-first (refusal w v zeros) _ (too_much_work o) _ t
+    over_joined t = unless_first (refusal w v zeros) _ (too_much_work o) _ t
 
-    full-joined : too_much o ≡ false → fits P.1 ≡ false → join_to w v x o P ≡ set_left (refused 6) w v zeros
+    full_joined : too_much o ≡ false → fits P.1 ≡ false → join_to w v x o P ≡ set_left (refused 6) w v zeros
     unfolding join_to refusal
-    full-joined t f = unless-next (refusal w v zeros) _ (too_much_work o) _ t ∙ unless-first (refusal w v zeros) _ (no_room P.1) [] (ap not f)
+    full_joined t f = unless_next (refusal w v zeros) _ (too_much_work o) _ t ∙ unless_first (refusal w v zeros) _ (no_room P.1) [] (ap not f)
 
     -- the same refusal of the store, and of the set
-    as-left : (n k : ℕ) → leaves (notMade n) w' z' ≡ leaves (notMade k) w zeros → set_left (refused n) w' v z' ≡ set_left (refused k) w v zeros
-    as-left n k e =
+    as_left : (n k : ℕ) → leaves (notMade n) w' z' ≡ leaves (notMade k) w zeros → set_left (refused n) w' v z' ≡ set_left (refused k) w v zeros
+    as_left n k e =
         let r : notMade n ≡ notMade k = ap (λ (l : Left). l.reply) e in
         let i : n ≡ k = cc in
         rw (i, ap (λ (l : Left). l.store) e, ap (λ (l : Left). l.scratch) e)
@@ -180,20 +180,20 @@ module _ {w v z : List ℕ} {i : ℕ} {x : Config} (j : Joinable w v z i x) wher
         let z : ◌≡◌ {A = ℕ} 0 1 = cc in
         omega arith
 
-    pub join-refused : (n : ℕ) → leaves (notMade n) w' z' ≡ worked w o P → set_left (refused n) w' v z' ≡ join_to w v x o P
-    join-refused n e =
+    pub join_refused : (n : ℕ) → leaves (notMade n) w' z' ≡ worked w o P → set_left (refused n) w' v z' ≡ join_to w v x o P
+    join_refused n e =
         worked? w o P
-        (λ t. as-left n 12 (e ∙ over-is w o P t) ∙ sym (over-joined t))
-        (λ t f. absurd (no_number n (e ∙ made-is w o P t f)))
-        (λ t f. as-left n 6 (e ∙ full_is w o P t f) ∙ sym (full-joined t f))
+        (λ t. as_left n 12 (e ∙ over_is w o P t) ∙ sym (over_joined t))
+        (λ t f. absurd (no_number n (e ∙ made_is w o P t f)))
+        (λ t f. as_left n 6 (e ∙ full_is w o P t f) ∙ sym (full_joined t f))
 
-    pub join-done : (c j k : ℕ) → leaves_after j k (context c) w' z' ≡ worked w o P → (y : Config) → y ≡ joined x c (config_at v i) → (u : List ℕ) → u ≡ put_config v i y
+    pub join_done : (c j k : ℕ) → leaves_after j k (context c) w' z' ≡ worked w o P → (y : Config) → y ≡ joined x c (config_at v i) → (u : List ℕ) → u ≡ put_config v i y
         → (n : ℕ) → n ≡ flag_word u → (b : ℕ) → b ≡ joined_flags n x → set_left_after j k (added 0) w' (set u 1 b) z' ≡ join_to w v x o P
     unfolding join_to unless
-    join-done c j k e y ey u eu n en b eb =
-        let m = merge-made w o P w' z' c j k e in
-        let f : b ≡ joined_flags (flag_word v) x = eb ∙ ap (λ (k : ℕ). joined_flags k x) (en ∙ ap flag_word eu ∙ put-flags v i y) in
+    join_done c j k e y ey u eu n en b eb =
+        let m = merge_made w o P w' z' c j k e in
+        let f : b ≡ joined_flags (flag_word v) x = eb ∙ ap (λ (k : ℕ). joined_flags k x) (en ∙ ap flag_word eu ∙ put_flags v i y) in
         let go = adds_after (count_of o) (store_of w) (record { answer = 0; store = P.1; set = with_configs S (joined_all x P.0 S.configs) }) in
-        rw (m.store, m.scratch, m.merges, m.made, eu, join-words P.0 y (rw m.number at ey) b f)
-        (sym (unless-next (refusal w v zeros) go (too_much_work o) (no_room P.1 ∷ []) m.light
-        ∙ unless-next (refusal w v zeros) go (no_room P.1) [] (ap not m.room)))
+        rw (m.store, m.scratch, m.merges, m.made, eu, join_words P.0 y (rw m.number at ey) b f)
+        (sym (unless_next (refusal w v zeros) go (too_much_work o) (no_room P.1 ∷ []) m.light
+        ∙ unless_next (refusal w v zeros) go (no_room P.1) [] (ap not m.room)))

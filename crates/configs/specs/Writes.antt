@@ -44,42 +44,42 @@ fields_read v j f (a ∷ xs) h =
 -- ---- one config put
 
 module _ (v : List ℕ) (i : ℕ) (x : Config) where
-  pub put-length : length (put_config v i x) ≡ length v
+  pub put_length : length (put_config v i x) ≡ length v
   unfolding put_config
-  put-length = fields_length v (first_config + config_words * i) 0 (fields x)
+  put_length = fields_length v (first_config + config_words * i) 0 (fields x)
 
-  pub put-before : (m : ℕ) → m < first_config + config_words * i → get_or (put_config v i x) m 0 ≡ get_or v m 0
+  pub put_before : (m : ℕ) → m < first_config + config_words * i → get_or (put_config v i x) m 0 ≡ get_or v m 0
   unfolding put_config
-  put-before m h = fields_before v (first_config + config_words * i) 0 (fields x) m (omega arith)
+  put_before m h = fields_before v (first_config + config_words * i) 0 (fields x) m (omega arith)
 
-  pub put-after : (m : ℕ) → first_config + config_words * i + config_words ≤ m → get_or (put_config v i x) m 0 ≡ get_or v m 0
+  pub put_after : (m : ℕ) → first_config + config_words * i + config_words ≤ m → get_or (put_config v i x) m 0 ≡ get_or v m 0
   unfolding put_config fields
-  put-after m h = fields_after v (first_config + config_words * i) 0 (fields x) m (omega arith)
+  put_after m h = fields_after v (first_config + config_words * i) 0 (fields x) m (omega arith)
 
   pub put_count : config_count (put_config v i x) ≡ config_count v
   unfolding config_count
-  put_count = put-before 0 (omega arith)
+  put_count = put_before 0 (omega arith)
 
-  pub put-flags : flag_word (put_config v i x) ≡ flag_word v
+  pub put_flags : flag_word (put_config v i x) ≡ flag_word v
   unfolding flag_word
-  put-flags = put-before 1 (omega arith)
+  put_flags = put_before 1 (omega arith)
 
-  pub put-here : length v ≡ set_words_length → i < most_configs → config_at (put_config v i x) i ≡ x
+  pub put_here : length v ≡ set_words_length → i < most_configs → config_at (put_config v i x) i ≡ x
   unfolding put_config fields config_at field reads
-  put-here l h =
+  put_here l h =
       fields_config (config_at (put_config v i x) i) x (fields_read v (first_config + config_words * i) 0 (fields x) (omega arith))
 
   pub put_other : (j : ℕ) → j ≢ i → config_at (put_config v i x) j ≡ config_at v j
   put_other j d =
       config_agree (put_config v i x) v j
-      (λ m a b. three j i (λ h. put-before m (omega arith)) (λ e. absurd (d e)) (λ h. put-after m (omega arith)))
+      (λ m a b. three j i (λ h. put_before m (omega arith)) (λ e. absurd (d e)) (λ h. put_after m (omega arith)))
 
 -- ---- count and flags put
 
 module _ (v : List ℕ) (j a : ℕ) (h : j < first_config) where
   -- no config is touched
-  pub head-config : (i : ℕ) → config_at (set v j a) i ≡ config_at v i
-  head-config i = config_agree (set v j a) v i (λ m p q. get_or-set_other v j m a 0 (omega arith))
+  pub head_config : (i : ℕ) → config_at (set v j a) i ≡ config_at v i
+  head_config i = config_agree (set v j a) v i (λ m p q. get_or-set_other v j m a 0 (omega arith))
 
-  pub head-other : (m : ℕ) → first_config ≤ m → get_or (set v j a) m 0 ≡ get_or v m 0
-  head-other m p = get_or-set_other v j m a 0 (omega arith)
+  pub head_other : (m : ℕ) → first_config ≤ m → get_or (set v j a) m 0 ≡ get_or v m 0
+  head_other m p = get_or-set_other v j m a 0 (omega arith)

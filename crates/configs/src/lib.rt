@@ -1,4 +1,6 @@
 // Config sets: a fresh set, one config more, and a set closed.
+#![tactic(auto)]
+
 mod adding;
 mod joining;
 mod settle;

@@ -17,8 +17,8 @@ use Rattle.arena.specs.Trees.{tree_canon}
 use Rattle.arena.specs.Stands.{stands}
 use Rattle.arena.specs.Identity.{same_stacks}
 use Rattle.arena.specs.Place.{merge_s}
-use Rattle.arena.specs.Placed.{grew_tree, grew_length, place-there}
-use Rattle.arena.specs.Steps.{merge-holds, merge-grew, merge-same}
+use Rattle.arena.specs.Placed.{grew_tree, grew_length, place_there}
+use Rattle.arena.specs.Steps.{merge_holds, merge_grew, merge_same}
 use Rattle.arena.specs.Numbering.{parts, Joins}
 use Rattle.arena.specs.Numbering.Laws.{merge_numbers}
 use Rattle.arena.specs.Below.Laws.{tree_below, merge_below, place_below}
@@ -35,12 +35,12 @@ use Rattle.store.specs.Checks.{order, due}
 use Rattle.store.specs.Checks.Laws.{in_order}
 use Rattle.words.specs.Refusals.{number}
 use Rattle.work.specs.Counted.{counting, refused as over, count_of}
-use Rattle.work.specs.Theorems.{else-answered, count-within}
+use Rattle.work.specs.Theorems.{else_answered, count_within}
 use Rattle.store.specs.Told.{number_tells}
 use Rattle.store.specs.Calls.{refused, context, Left, refusal, gives_after, Accepts}
-use Rattle.store.specs.Calls.Laws.{refused-exactly, refused-leaves, accepted, right-lengths, is-sound, both-known, has_room, little_work, accepted_merges, made_exactly, found_exactly}
+use Rattle.store.specs.Calls.Laws.{refused_exactly, refused_leaves, accepted, right_lengths, is_sound, both_known, has_room, little_work, accepted_merges, made_exactly, found_exactly}
 use Rattle.store.specs.Nested.{if_known}
-use Rattle.store.specs.Admit.{known-goes, unknown}
+use Rattle.store.specs.Admit.{known_goes, unknown}
 use Rattle.interning.specs.SingletonCall.Laws.{checked_agree}
 use Rattle.interning.specs.Promises.{After, after_of, no_refusal}
 use Rattle.contexts.specs.MergeCall.{merge_checks, merge_call}
@@ -66,13 +66,13 @@ module _ (w z : List ℕ) (a b : ℕ) (m : Bool) (c : ℕ) (w' : List ℕ) (ok :
   unfolding merge_call merge_checks
   passed =
       let r = accepted w z _ (count_of (counting m (store_of w) a b)) (store_of w) (merge_s m (store_of w) a b) c w' ok in
-      let l = (right-lengths w z r.0.0).0 in
-      let d = decoded w l (sound_true w l (is-sound w z r.0.1.0)) in
+      let l = (right_lengths w z r.0.0).0 in
+      let d = decoded w l (sound_true w l (is_sound w z r.0.1.0)) in
       record {
         sized = l;
         good = d.0;
         words = d.1;
-        known = both-known w z a b r.0.1.1.0;
+        known = both_known w z a b r.0.1.1.0;
         light = little_work _ r.0.1.1.1.0;
         fits = has_room _ r.0.1.1.1.1.0;
         number = r.1;
@@ -86,19 +86,19 @@ module _ (w z : List ℕ) (a b : ℕ) (m : Bool) (c : ℕ) (w' : List ℕ) (ok :
   hb = rw (store_length w (contexts w)) passed.known.1
 
   -- both numbers were known
-  pub merge-known-before : (a < contexts w) × (b < contexts w)
-  merge-known-before = passed.known
+  pub merge_known_before : (a < contexts w) × (b < contexts w)
+  merge_known_before = passed.known
 
   -- and so the sets of the sides are in canonical form
-  pub sides-canon : Canon (tree (store_of w) a) × Canon (tree (store_of w) b)
-  sides-canon = ((tree_canon (store_of w) passed.good.sound a ha).1, (tree_canon (store_of w) passed.good.sound b hb).1)
+  pub sides_canon : Canon (tree (store_of w) a) × Canon (tree (store_of w) b)
+  sides_canon = ((tree_canon (store_of w) passed.good.sound a ha).1, (tree_canon (store_of w) passed.good.sound b hb).1)
 
   -- the store that the merge made
   after : After (merge_s m (store_of w) a b) c w'
   unfolding merge_s
   after =
       let s = store_of w in
-      let h = merge-holds m s passed.good.sound a b ha hb in
+      let h = merge_holds m s passed.good.sound a b ha hb in
       let below = tree_below stop s passed.good.below in
       let good : GoodStore (merge_s m s a b).1 = record {
         sound = h.sound;
@@ -108,70 +108,70 @@ module _ (w z : List ℕ) (a b : ℕ) (m : Bool) (c : ℕ) (w' : List ℕ) (ok :
       } in
       after_of (merge_s m s a b) c w' good h.known passed.number passed.after
 
-  pub store-after : store_of w' ≡ (merge_s m (store_of w) a b).1
-  store-after = after.store
+  pub store_after : store_of w' ≡ (merge_s m (store_of w) a b).1
+  store_after = after.store
 
   -- the number is in a sound store
-  pub merge-sound-after : (length w' ≡ store_words) × (sound w' ≡ true) × (c < contexts w')
-  merge-sound-after = (after.sized, after.sound.0, after.sound.1)
+  pub merge_sound_after : (length w' ≡ store_words) × (sound w' ≡ true) × (c < contexts w')
+  merge_sound_after = (after.sized, after.sound.0, after.sound.1)
 
   -- its set is the merge of the sides' sets
-  pub merge-tree : tree (store_of w') c ≡ merge_t m (tree (store_of w) a) (tree (store_of w) b)
-  merge-tree = (rw (store-after, ← passed.number)) ∙ (merge-holds m (store_of w) passed.good.sound a b ha hb).is
+  pub merge_tree : tree (store_of w') c ≡ merge_t m (tree (store_of w) a) (tree (store_of w) b)
+  merge_tree = (rw (store_after, ← passed.number)) ∙ (merge_holds m (store_of w) passed.good.sound a b ha hb).is
 
   -- the number stands for the merged set, by the rule of its mode
-  pub merge-stands : MergeRule m (mem (tree (store_of w) a)) (mem (tree (store_of w) b)) (mem (tree (store_of w') c))
-  merge-stands =
+  pub merge_stands : MergeRule m (mem (tree (store_of w) a)) (mem (tree (store_of w) b)) (mem (tree (store_of w') c))
+  merge_stands =
       let s = store_of w in
-      rw merge-tree (merge_rule m _ _ (tree_canon s passed.good.sound a ha).1 (tree_canon s passed.good.sound b hb).1)
+      rw merge_tree (merge_rule m _ _ (tree_canon s passed.good.sound a ha).1 (tree_canon s passed.good.sound b hb).1)
 
   -- a context merged with itself gives its number, and nothing is made
   pub itself : a ≡ b → (c ≡ a) × (w' ≡ w)
   itself e =
       let s = store_of w in
-      let same : merge_s m s a b ≡ (a, s) = merge-same m s passed.good.sound a b ha hb e in (
+      let same : merge_s m s a b ≡ (a, s) = merge_same m s passed.good.sound a b ha hb e in (
         sym passed.number ∙ ap (λ (x : ℕ × Store). x.0) same,
         sym passed.after ∙ ap (λ (x : ℕ × Store). words_of x.1) same ∙ sym passed.words,
       )
 
   -- every older number's set is as it was, and none goes
-  pub older-kept : (k : ℕ) → k < contexts w → (k < contexts w') × ((σ : List ℕ) → stands (store_of w') k σ ≡ stands (store_of w) k σ)
-  older-kept k l =
+  pub older_kept : (k : ℕ) → k < contexts w → (k < contexts w') × ((σ : List ℕ) → stands (store_of w') k σ ≡ stands (store_of w) k σ)
+  older_kept k l =
       let old : k < length (store_of w) = rw (store_length w (contexts w)) l in
-      let g = merge-grew m (store_of w) passed.good.sound a b ha hb in
-      let more : length (store_of w) ≤ length (store_of w') = rw store-after (grew_length (store_of w) _ g) in
+      let g = merge_grew m (store_of w) passed.good.sound a b ha hb in
+      let more : length (store_of w) ≤ length (store_of w') = rw store_after (grew_length (store_of w) _ g) in
       let there : k < length (store_of w') = omega arith in
-      (rw (store_length w' (contexts w')) at there, λ σ. ap (λ (F : Forest). mem F σ) ((rw store-after) ∙ grew_tree (store_of w) _ g k old))
+      (rw (store_length w' (contexts w')) at there, λ σ. ap (λ (F : Forest). mem F σ) ((rw store_after) ∙ grew_tree (store_of w) _ g k old))
 
   -- the contexts that there are more than before
   merge_grows : contexts w + (length (merge_s m (store_of w) a b).1 - length (store_of w)) ≡ contexts w'
   merge_grows =
-      let more = grew_length (store_of w) _ (merge-grew m (store_of w) passed.good.sound a b ha hb) in
-      omega (arith, more, ap length store-after, store_length w (contexts w), store_length w' (contexts w'))
+      let more = grew_length (store_of w) _ (merge_grew m (store_of w) passed.good.sound a b ha hb) in
+      omega (arith, more, ap length store_after, store_length w (contexts w), store_length w' (contexts w'))
 
   -- where the number was there before, nothing is made
-  merge-there : c < contexts w → w' ≡ w
+  merge_there : c < contexts w → w' ≡ w
   unfolding merge_s
-  merge-there h =
+  merge_there h =
       let s = store_of w in
       let old : c < length s = rw (store_length w (contexts w)) h in
-      let g = merge-grew m s passed.good.sound a b ha hb in
-      let is : tree s c ≡ merge_t m (tree s a) (tree s b) = sym (grew_tree s _ g c old) ∙ ap (λ (u : Store). tree u c) (sym store-after) ∙ merge-tree in
-      sym passed.after ∙ ap (λ (x : ℕ × Store). words_of x.1) (place-there s passed.good.sound c _ old is) ∙ sym passed.words
+      let g = merge_grew m s passed.good.sound a b ha hb in
+      let is : tree s c ≡ merge_t m (tree s a) (tree s b) = sym (grew_tree s _ g c old) ∙ ap (λ (u : Store). tree u c) (sym store_after) ∙ merge_tree in
+      sym passed.after ∙ ap (λ (x : ℕ × Store). words_of x.1) (place_there s passed.good.sound c _ old is) ∙ sym passed.words
 
   -- "New contexts take the next number: inner merges go in rising order of top state, each before the context above it, and nothing else is made."
-  pub merge-numbers-after : Joins (store_of w) (parts (merge_t m (tree (store_of w) a) (tree (store_of w) b))) (store_of w')
-  merge-numbers-after = rw store-after (merge_numbers m (store_of w) passed.good.sound a b ha hb)
+  pub merge_numbers_after : Joins (store_of w) (parts (merge_t m (tree (store_of w) a) (tree (store_of w) b))) (store_of w')
+  merge_numbers_after = rw store_after (merge_numbers m (store_of w) passed.good.sound a b ha hb)
 
 -- An accepted full-context merge stands for the union of its sides.
 pub merge_is_union : (w z : List ℕ) (a b c : ℕ) (w' : List ℕ) → Accepts (merge_call w z a b false) c w'
     → (σ : List ℕ) → stands (store_of w') c σ ≡ (stands (store_of w) a σ || stands (store_of w) b σ)
-merge_is_union w z a b c w' ok = merge-stands w z a b false c w' ok
+merge_is_union w z a b c w' ok = merge_stands w z a b false c w' ok
 
 -- An accepted wildcard merge satisfies document 01's sentences.
 pub merge_by_wildcard : (w z : List ℕ) (a b c : ℕ) (w' : List ℕ) → Accepts (merge_call w z a b true) c w'
     → WildcardMerge (stands (store_of w) a) (stands (store_of w) b) (stands (store_of w') c)
-merge_by_wildcard w z a b c w' ok = merge-stands w z a b true c w' ok
+merge_by_wildcard w z a b c w' ok = merge_stands w z a b true c w' ok
 
 -- ---- sides exchanged, refused calls too
 
@@ -179,10 +179,10 @@ known_swapped : (w : List ℕ) (a b : ℕ) (x y : Left) → (a < contexts w → 
 known_swapped w a b x y h =
     below? a (contexts w)
     (λ p. below? b (contexts w)
-    (λ q. known-goes w a _ p ∙ known-goes w b x q ∙ h p q ∙ sym (known-goes w b _ q ∙ known-goes w a y p))
-    (λ q. known-goes w a _ p ∙ unknown w b x q ∙ sym (unknown w b _ q)))
+    (λ q. known_goes w a _ p ∙ known_goes w b x q ∙ h p q ∙ sym (known_goes w b _ q ∙ known_goes w a y p))
+    (λ q. known_goes w a _ p ∙ unknown w b x q ∙ sym (unknown w b _ q)))
     (λ p. below? b (contexts w)
-    (λ q. unknown w a _ p ∙ sym (known-goes w b _ q ∙ unknown w a y p))
+    (λ q. unknown w a _ p ∙ sym (known_goes w b _ q ∙ unknown w a y p))
     (λ q. unknown w a _ p ∙ sym (unknown w b _ q)))
 
 -- The sides can be exchanged: the same reply and the same words.
@@ -207,23 +207,23 @@ equal_exactly w l s a b h k =
 -- ---- a refused merge: exactly when, and with nothing changed
 
 module _ (w z : List ℕ) (a b : ℕ) (m : Bool) (n : ℕ) where
-  pub merge-refused-exactly : ((merge_call w z a b m).reply ≡ refused n) ↔ (due (merge_checks w z a b m) ≡ at n)
+  pub merge_refused_exactly : ((merge_call w z a b m).reply ≡ refused n) ↔ (due (merge_checks w z a b m) ≡ at n)
   unfolding merge_call
-  merge-refused-exactly =
+  merge_refused_exactly =
       let x = merge_s m (store_of w) a b in
       let k = count_of (counting m (store_of w) a b) in
-      refused-exactly w z (merge_checks w z a b m) (gives_after k (store_of w) x) (no_refusal k (store_of w) x) n
+      refused_exactly w z (merge_checks w z a b m) (gives_after k (store_of w) x) (no_refusal k (store_of w) x) n
 
-  pub merge-refused-leaves : (merge_call w z a b m).reply ≡ refused n → merge_call w z a b m ≡ refusal w z n
+  pub merge_refused_leaves : (merge_call w z a b m).reply ≡ refused n → merge_call w z a b m ≡ refusal w z n
   unfolding merge_call
-  merge-refused-leaves =
+  merge_refused_leaves =
       let x = merge_s m (store_of w) a b in
       let k = count_of (counting m (store_of w) a b) in
-      refused-leaves w z (merge_checks w z a b m) (gives_after k (store_of w) x) (no_refusal k (store_of w) x) n
+      refused_leaves w z (merge_checks w z a b m) (gives_after k (store_of w) x) (no_refusal k (store_of w) x) n
 
-  pub merge-in-order : in_order order (merge_checks w z a b m) ≡ true
+  pub merge_in_order : in_order order (merge_checks w z a b m) ≡ true
   unfolding merge_checks in_order
-  merge-in-order = refl
+  merge_in_order = refl
 
 -- ---- any two outcomes that satisfy the contract for the same input are equal
 
@@ -264,7 +264,7 @@ merge_figure w z a b m =
 pub merge_found : (w z : List ℕ) (a b : ℕ) (m : Bool) (c : ℕ) (w' : List ℕ) → Accepts (merge_call w z a b m) c w'
     → ((merge_call w z a b m).made ≡ 0) ↔ (c < contexts w)
 merge_found w z a b m c w' ok =
-    found_exactly w w' c _ (merge_figure w z a b m ∙ ap contexts ok.1) (merge-sound-after w z a b m c w' ok).2 (merge-there w z a b m c w' ok)
+    found_exactly w w' c _ (merge_figure w z a b m ∙ ap contexts ok.1) (merge_sound_after w z a b m c w' ok).2 (merge_there w z a b m c w' ok)
 
 -- ---- what is counted
 
@@ -278,6 +278,6 @@ merge_counts w z a b m c w' ok =
     let v = passed w z a b m c w' ok in
     let l = ha w z a b m c w' ok in
     let r = hb w z a b m c w' ok in
-    let e = else-answered m s a b v.good.sound v.good.fits l r v.light v.fits in
-    let few = count-within m s a b v.good.sound v.good.fits l r _ e.0 e.1 in
+    let e = else_answered m s a b v.good.sound v.good.fits l r v.light v.fits in
+    let few = count_within m s a b v.good.sound v.good.fits l r _ e.0 e.1 in
     (is, rw (is, e.1) few)

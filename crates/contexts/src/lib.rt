@@ -1,4 +1,6 @@
 // The merge of two contexts as a call.
+#![tactic(auto)]
+
 pub mod inner;
 mod merges;
 

@@ -10,7 +10,7 @@ use Rattle.groups.specs.Answers.{none, only, unique_alt, single_viable_alt}
 use Rattle.groups.specs.Sentences.{Unique}
 use Rattle.groups.specs.Single.{says_none, unique_says, Served, viable_configs}
 use Rattle.grouping.specs.Clash.{configs_of, alt_at}
-use Rattle.grouping.specs.Places.{some-place, place-some, every-place, place-every}
+use Rattle.grouping.specs.Places.{some_place, place_some, every_place, place_every}
 use Rattle.grouping.specs.Marks.{each_picked}
 use Rattle.grouping.specs.declared.inner.traits.Alike.TheVariants.{Place}
 use Rattle.grouping.specs.declared.inner.marks.Picks.TheVariants.{Holders}
@@ -34,38 +34,38 @@ module _ (v : List ℕ) where
   -- ---- of every config
 
   pub unique_none : config_count v ≡ 0 → unique_alt (configs_of v) ≡ none
-  unique_none e = says_none (Unique (configs_of v)) (unique_alt (configs_of v)) (unique_says (configs_of v)) (λ a u. let s = some-place v _ (config_count v) u.0 in omega (arith, s.1))
+  unique_none e = says_none (Unique (configs_of v)) (unique_alt (configs_of v)) (unique_says (configs_of v)) (λ a u. let s = some_place v _ (config_count v) u.0 in omega (arith, s.1))
 
-  pub unique-two : (i : ℕ) → i < config_count v → (alt_at v i ≡ alt_at v 0 → ⊥) → unique_alt (configs_of v) ≡ none
-  unique-two i h d =
+  pub unique_two : (i : ℕ) → i < config_count v → (alt_at v i ≡ alt_at v 0 → ⊥) → unique_alt (configs_of v) ≡ none
+  unique_two i h d =
       says_none (Unique (configs_of v)) (unique_alt (configs_of v)) (unique_says (configs_of v)) (λ a u.
-      let f = every-place v (λ c. c.alternative ≡ a) (config_count v) u.1 in
+      let f = every_place v (λ c. c.alternative ≡ a) (config_count v) u.1 in
       d (f i h ∙ sym (f 0 (omega arith))))
 
-  pub unique-one : 0 < config_count v → Same v (config_count v) → unique_alt (configs_of v) ≡ only (alt_at v 0)
-  unique-one h f =
+  pub unique_one : 0 < config_count v → Same v (config_count v) → unique_alt (configs_of v) ≡ only (alt_at v 0)
+  unique_one h f =
       (unique_says (configs_of v) (alt_at v 0)).1
-      (place-some v (λ c. c.alternative ≡ alt_at v 0) (config_count v) 0 h refl, place-every v (λ c. c.alternative ≡ alt_at v 0) (config_count v) f)
+      (place_some v (λ c. c.alternative ≡ alt_at v 0) (config_count v) 0 h refl, place_every v (λ c. c.alternative ≡ alt_at v 0) (config_count v) f)
 
   -- ---- the smallest of every subset
 
-  pub viable-none : config_count v ≡ 0 → single_viable_alt (configs_of v) ≡ none
-  viable-none e = says_none (Served (configs_of v)) (single_viable_alt (configs_of v)) (viable_configs (configs_of v)) (λ a s. let r = some-place v _ (config_count v) s.some in omega (arith, r.1))
+  pub viable_none : config_count v ≡ 0 → single_viable_alt (configs_of v) ≡ none
+  viable_none e = says_none (Served (configs_of v)) (single_viable_alt (configs_of v)) (viable_configs (configs_of v)) (λ a s. let r = some_place v _ (config_count v) s.some in omega (arith, r.1))
 
   module _ (x : Alternative) (l : Least v (config_count v) x.0) where
-    pub viable-held : each_picked Place (Holders x) (configs_of v) ≡ true → single_viable_alt (configs_of v) ≡ only x.0
-    viable-held e =
+    pub viable_held : each_picked Place (Holders x) (configs_of v) ≡ true → single_viable_alt (configs_of v) ≡ only x.0
+    viable_held e =
         (viable_configs (configs_of v) x.0).1 (record {
-          some = place-some v (λ c. c.alternative ≡ x.0) (config_count v) l.some.0 l.some.1 l.some.2;
-          least = place-every v (λ c. x.0 ≤ c.alternative) (config_count v) l.least;
+          some = place_some v (λ c. c.alternative ≡ x.0) (config_count v) l.some.0 l.some.1 l.some.2;
+          least = place_every v (λ c. x.0 ≤ c.alternative) (config_count v) l.least;
           each = (holders_picked (configs_of v) x.0 x refl).0 e;
         })
 
-    pub viable-not-held : each_picked Place (Holders x) (configs_of v) ≡ false → single_viable_alt (configs_of v) ≡ none
-    viable-not-held e =
+    pub viable_not_held : each_picked Place (Holders x) (configs_of v) ≡ false → single_viable_alt (configs_of v) ≡ none
+    viable_not_held e =
         says_none (Served (configs_of v)) (single_viable_alt (configs_of v)) (viable_configs (configs_of v)) (λ a s.
-        let r = some-place v (λ c. c.alternative ≡ a) (config_count v) s.some in
-        let low = every-place v (λ c. a ≤ c.alternative) (config_count v) s.least l.some.0 l.some.1 in
+        let r = some_place v (λ c. c.alternative ≡ a) (config_count v) s.some in
+        let low = every_place v (λ c. a ≤ c.alternative) (config_count v) s.least l.some.0 l.some.1 in
         let q : x.0 ≡ a = omega (arith, l.least r.0 r.1, r.2, low, l.some.2) in
         never_both ((holders_picked (configs_of v) a x q).1 s.each) e)
 

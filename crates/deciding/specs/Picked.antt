@@ -9,10 +9,10 @@ use Rattle.sets.specs.Config.{Config}
 use Rattle.sets.specs.Lists.{any, all}
 use Rattle.cases.specs.Bools.{bool?, never_both, is_false, bool_iff, both_true, and_left, and_right}
 use Rattle.groups.specs.Lists.{Any, All, which}
-use Rattle.groups.specs.Lists.Laws.{some-map, some_in, in_some, every_map, every_in, in-every}
-use Rattle.groups.specs.Lists.Tests.{any-exact, all-exact}
+use Rattle.groups.specs.Lists.Laws.{some_map, some_in, in_some, every_map, every_in, in_every}
+use Rattle.groups.specs.Lists.Tests.{any_exact, all_exact}
 use Rattle.groups.specs.Groups.{together, firsts, subset, groups}
-use Rattle.groups.specs.Answers.{all_subsets_conflict, all_subsets_equal, justOne}
+use Rattle.groups.specs.Answers.{all_subsets_conflict, all_subsets_equal, just_one}
 use Rattle.groups.specs.Sentences.{AtPlace, JustOne}
 use Rattle.groups.specs.Firsts.{together_true, true_together}
 use Rattle.groups.specs.Rules.{Beside}
@@ -49,15 +49,15 @@ product_few {a} {b} h k = omega (arith, mul-le-mul_right b h, k)
 
 module _ (k : Alike) (p : Picks) (K P : Config → Config → Type 0)
     (kind : (c d : Config) → (alike_of k c d ≡ true) ↔ K c d) (pick : (c d : Config) → (picks p c d ≡ true) ↔ P c d) (cs : List Config) where
-  pub both-exact : (c d : Config) → ((alike_of k c d && picks p c d) ≡ true) ↔ (K c d × P c d)
-  both-exact c d = (
+  pub both_exact : (c d : Config) → ((alike_of k c d && picks p c d) ≡ true) ↔ (K c d × P c d)
+  both_exact c d = (
     λ e. ((kind c d).0 (and_left _ _ e), (pick c d).0 (and_right (alike_of k c d) _ e)),
     λ h. both_true _ _ ((kind c d).1 h.0) ((pick c d).1 h.1),
   )
 
-  picked-exact : (each_picked k p cs ≡ true) ↔ All (λ c. Any (λ d. K c d × P c d) cs) cs
+  picked_exact : (each_picked k p cs ≡ true) ↔ All (λ c. Any (λ d. K c d × P c d) cs) cs
   unfolding each_picked
-  picked-exact = all-exact _ (λ c. Any (λ d. K c d × P c d) cs) cs (λ c. any-exact _ (λ d. K c d × P c d) cs (both-exact c))
+  picked_exact = all_exact _ (λ c. Any (λ d. K c d × P c d) cs) cs (λ c. any_exact _ (λ d. K c d × P c d) cs (both_exact c))
 
 pub place_exact : (c d : Config) → (alike_of Place c d ≡ true) ↔ Beside c d
 place_exact c d = (place_true c d, true_place c d)
@@ -71,14 +71,14 @@ rival_exact c d = (
 -- Each config has a rival in its subset: `all_subsets_conflict`.
 pub conflict_picked : (cs : List Config) → each_picked Place Rivals cs ≡ all_subsets_conflict cs
 conflict_picked cs =
-    let e = picked-exact Place Rivals Beside (λ c d. d.alternative ≡ c.alternative → ⊥) place_exact rival_exact cs in
+    let e = picked_exact Place Rivals Beside (λ c d. d.alternative ≡ c.alternative → ⊥) place_exact rival_exact cs in
     bool_iff (each_picked Place Rivals cs) (all_subsets_conflict cs) (λ h. (conflict_configs cs).1 (e.0 h)) (λ h. e.1 ((conflict_configs cs).0 h))
 
 -- Each config has one in its subset with alternative a.
 pub holders_picked : (cs : List Config) (a : ℕ) (x : Rattle.words.specs.declared.names.Alternative.Alternative) → x.0 ≡ a
     → (each_picked Place (Holders x) cs ≡ true) ↔ All (λ c. Any (λ d. Beside c d × (d.alternative ≡ a)) cs) cs
 holders_picked cs a x e =
-    picked-exact Place (Holders x) Beside (λ c d. d.alternative ≡ a) place_exact
+    picked_exact Place (Holders x) Beside (λ c d. d.alternative ≡ a) place_exact
     (λ c d. (λ h. eqb-true d.alternative x.0 h ∙ e, λ h. eq-eqb d.alternative x.0 (h ∙ sym e))) cs
 
 -- ---- no state has just one
@@ -89,27 +89,27 @@ unfolding any all which
 any_fails s e [] = refl
 any_fails s e (x ∷ xs) =
     bool? (s x)
-    (λ h. rw (h, any_fails s e xs, which) (not-and (e x) (all e (which s xs))))
+    (λ h. rw (h, any_fails s e xs, which) (not_and (e x) (all e (which s xs))))
     (λ h. rw (h, which) (any_fails s e xs))
   where
-    not-and : (a b : Bool) → (not a || not b) ≡ not (a && b)
-    not-and true b = refl
-    not-and false b = refl
+    not_and : (a b : Bool) → (not a || not b) ≡ not (a && b)
+    not_and true b = refl
+    not_and false b = refl
 
 all_not : {A : Type 0} (t : A → Bool) (xs : List A) → all (λ x. not (t x)) xs ≡ not (any t xs)
 unfolding any all
 all_not t [] = refl
-all_not t (x ∷ xs) = ap (λ (b : Bool). not (t x) && b) (all_not t xs) ∙ not-or (t x) (any t xs)
+all_not t (x ∷ xs) = ap (λ (b : Bool). not (t x) && b) (all_not t xs) ∙ not_or (t x) (any t xs)
   where
-    not-or : (a b : Bool) → (not a && not b) ≡ not (a || b)
-    not-or true b = refl
-    not-or false b = refl
+    not_or : (a b : Bool) → (not a && not b) ≡ not (a || b)
+    not_or true b = refl
+    not_or false b = refl
 
 -- Each config has a rival in its state: no state has just one alternative.
-pub states_picked : (cs : List Config) → each_picked State Rivals cs ≡ not (any (justOne cs) cs)
-unfolding each_picked justOne
+pub states_picked : (cs : List Config) → each_picked State Rivals cs ≡ not (any (just_one cs) cs)
+unfolding each_picked just_one
 states_picked cs =
     ap (λ (t : Config → Bool). all t cs)
     (fun_ext λ c. ap (λ (s : Config → Bool). any (λ d. s d && not (eqb d.alternative c.alternative)) cs) (fun_ext (same_states c))
     ∙ any_fails (λ d. eqb d.state c.state) (λ d. eqb d.alternative c.alternative) cs)
-    ∙ all_not (justOne cs) cs
+    ∙ all_not (just_one cs) cs

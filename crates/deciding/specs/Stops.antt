@@ -5,7 +5,7 @@ use Rattle.sets.specs.Config.{Config}
 use Rattle.sets.specs.Layout.{config_at, config_count}
 use Rattle.sets.specs.Lists.{any, all}
 use Rattle.cases.specs.Bools.{or_right, never_both, is_false}
-use Rattle.sets.specs.Listed.{all-at, at_all}
+use Rattle.sets.specs.Listed.{all_at, at_all}
 use Rattle.groups.specs.Groups.{groups}
 use Rattle.groups.specs.Answers.{many, stopped, verdict}
 use Rattle.grouping.specs.Clash.{configs_of}
@@ -36,25 +36,25 @@ module _ (stops v : List ℕ) where
     pub less : n < config_count v
     pub before : (i : ℕ) → i < n → Stop i ≡ true
 
-  pub stopped-all : ((i : ℕ) → i < config_count v → Stop i ≡ true) → stopped stops (configs_of v) ≡ true
+  pub stopped_all : ((i : ℕ) → i < config_count v → Stop i ≡ true) → stopped stops (configs_of v) ≡ true
   unfolding stopped
-  stopped-all f = at_all (λ (c : Config). any (eqb c.state) stops) v (config_count v) f
+  stopped_all f = at_all (λ (c : Config). any (eqb c.state) stops) v (config_count v) f
 
-  pub stopped-not : (i : ℕ) → i < config_count v → Stop i ≡ false → stopped stops (configs_of v) ≡ false
+  pub stopped_not : (i : ℕ) → i < config_count v → Stop i ≡ false → stopped stops (configs_of v) ≡ false
   unfolding stopped
-  stopped-not i h e = is_false _ (λ d. never_both (all-at (λ (c : Config). any (eqb c.state) stops) v (config_count v) d i h) e)
+  stopped_not i h e = is_false _ (λ d. never_both (all_at (λ (c : Config). any (eqb c.state) stops) v (config_count v) d i h) e)
 
   -- ---- the verdict, case by case
 
-  pub verdict-stopped : stopped stops (configs_of v) ≡ true → verdict stops (configs_of v) ≡ true
+  pub verdict_stopped : stopped stops (configs_of v) ≡ true → verdict stops (configs_of v) ≡ true
   unfolding verdict
-  verdict-stopped e = rw e
+  verdict_stopped e = rw e
 
   module _ (e : stopped stops (configs_of v) ≡ false) where
-    pub verdict-plain : any many (groups (configs_of v)) ≡ false → verdict stops (configs_of v) ≡ false
+    pub verdict_plain : any many (groups (configs_of v)) ≡ false → verdict stops (configs_of v) ≡ false
     unfolding verdict
-    verdict-plain d = rw (e, d)
+    verdict_plain d = rw (e, d)
 
-    pub verdict-states : any many (groups (configs_of v)) ≡ true → verdict stops (configs_of v) ≡ each_picked State Rivals (configs_of v)
+    pub verdict_states : any many (groups (configs_of v)) ≡ true → verdict stops (configs_of v) ≡ each_picked State Rivals (configs_of v)
     unfolding verdict
-    verdict-states d = rw (e, d) (sym (states_picked (configs_of v)))
+    verdict_states d = rw (e, d) (sym (states_picked (configs_of v)))

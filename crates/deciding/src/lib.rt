@@ -1,2 +1,4 @@
 // What walks over a set's configs decide of its subsets.
+#![tactic(auto)]
+
 pub mod inner;

@@ -7,19 +7,19 @@ use native.Mathlib.Omega.{arith}
 use Rattle.cases.specs.Numbers.{two}
 use Rattle.arena.specs.Store.{Node, end, dollar, push, Store, node_at}
 use Rattle.arena.specs.Soundness.{Rise, Full, Sound}
-use Rattle.arena.specs.Trees.{node-new, node-old, node_sound, nodes_differ}
+use Rattle.arena.specs.Trees.{node_new, node_old, node_sound, nodes_differ}
 use Rattle.arena.specs.Kinds.{size}
 use Rattle.arena.specs.Room.{room, pool}
 use Rattle.arena.specs.Below.{NodeBelow, StoreBelow}
 use Rattle.layout.specs.Layout.{stop, count, used, kind, first, second, parent, state}
 use Rattle.layout.specs.Listing.Laws.{Entries}
 use Rattle.layout.specs.Decode.{node_in, store_in, store_of}
-use Rattle.layout.specs.Decode.Laws.{store_node, node-zero, node-one, node-many}
+use Rattle.layout.specs.Decode.Laws.{store_node, node_zero, node_one, node_many}
 use Rattle.layout.specs.Sound.{SoundWords}
 use Rattle.layout.specs.Encode.{words_of}
-use Rattle.encoding.specs.Reads.{lengths, lengths-zero, lengths-one, lengths-two, Sized, zeroth, single, several, lengths_pool_of}
+use Rattle.encoding.specs.Reads.{lengths, lengths_zero, lengths_one, lengths_two, Sized, zeroth, single, several, lengths_pool_of}
 use Rattle.encoding.specs.Good.{GoodStore}
-use Rattle.encoding.specs.Filled.{Filled, filled-listing, filled-entries}
+use Rattle.encoding.specs.Filled.{Filled, filled_listing, filled_entries}
 use Rattle.encoding.specs.Held.{kind_word, first_word, second_word, in_pool, Recorded, Records, Held}
 use Rattle.encoding.specs.Written.{words_held}
 
@@ -27,13 +27,13 @@ use Rattle.encoding.specs.Written.{words_held}
 
 many_node : (w : List ℕ) (c i : ℕ) (n : Node) → kind w c ≡ 2 → first w c ≡ i → second w c ≡ size n → Filled (state w) (parent w) i n → NodeBelow stop n
     → node_in w c ≡ n
-many_node w c i n k a b f l = node-many w c k ∙ (rw (a, b) (filled-listing (state w) (parent w) i n f l))
+many_node w c i n k a b f l = node_many w c k ∙ (rw (a, b) (filled_listing (state w) (parent w) i n f l))
 
 pub recorded_node : (w : List ℕ) (c i : ℕ) (n : Node) → Recorded w c i n → Full n → NodeBelow stop n → node_in w c ≡ n
 unfolding kind_word first_word second_word in_pool size
 recorded_node w c i end r full b = absurd full
-recorded_node w c i dollar r full b = node-zero w c r.kinds
-recorded_node w c i (push q p end) r full b = node-one w c r.kinds ∙ (rw (r.firsts, r.seconds))
+recorded_node w c i dollar r full b = node_zero w c r.kinds
+recorded_node w c i (push q p end) r full b = node_one w c r.kinds ∙ (rw (r.firsts, r.seconds))
 recorded_node w c i (push q p dollar) r full b = many_node w c i (push q p dollar) r.kinds r.firsts r.seconds r.entries b
 recorded_node w c i (push q p (push t o n)) r full b = many_node w c i (push q p (push t o n)) r.kinds r.firsts r.seconds r.entries b
 
@@ -47,11 +47,11 @@ records_store w (n ∷ s) r v b =
 
 recorded_lengths : (w : List ℕ) (c i : ℕ) (n : Node) → Recorded w c i n → lengths w (suc c) ≡ lengths w c + room n
 unfolding kind_word second_word size room
-recorded_lengths w c i end r = lengths-zero w c r.kinds ∙ (omega arith)
-recorded_lengths w c i dollar r = lengths-zero w c r.kinds ∙ (omega arith)
-recorded_lengths w c i (push q p end) r = lengths-one w c r.kinds ∙ (omega arith)
-recorded_lengths w c i (push q p dollar) r = lengths-two w c r.kinds ∙ (rw r.seconds)
-recorded_lengths w c i (push q p (push t o n)) r = lengths-two w c r.kinds ∙ (rw r.seconds)
+recorded_lengths w c i end r = lengths_zero w c r.kinds ∙ (omega arith)
+recorded_lengths w c i dollar r = lengths_zero w c r.kinds ∙ (omega arith)
+recorded_lengths w c i (push q p end) r = lengths_one w c r.kinds ∙ (omega arith)
+recorded_lengths w c i (push q p dollar) r = lengths_two w c r.kinds ∙ (rw r.seconds)
+recorded_lengths w c i (push q p (push t o n)) r = lengths_two w c r.kinds ∙ (rw r.seconds)
 
 pub records_lengths : (w : List ℕ) (s : Store) → Records w s → lengths w (length s) ≡ pool s
 unfolding lengths pool
@@ -62,40 +62,40 @@ pub records_at : (w : List ℕ) (s : Store) → Records w s → (c : ℕ) → c 
 records_at w [] r c h = absurd (omega arith)
 records_at w (n ∷ s) r c h =
     two c (length s)
-    (λ e. rw (node-new n s c e, e, records_lengths w s r.1) r.0)
-    (λ e. rw (node-old n s c (omega arith)) (records_at w s r.1 c (omega arith)))
+    (λ e. rw (node_new n s c e, e, records_lengths w s r.1) r.0)
+    (λ e. rw (node_old n s c (omega arith)) (records_at w s r.1 c (omega arith)))
 
 pub node_below : (k : ℕ) (s : Store) → StoreBelow k s → (c : ℕ) → c < length s → NodeBelow k (node_at s c)
 node_below k [] b c h = absurd (omega arith)
 node_below k (n ∷ s) b c h =
     two c (length s)
-    (λ e. rw (node-new n s c e) b.0)
-    (λ e. rw (node-old n s c (omega arith)) (node_below k s b.1 c (omega arith)))
+    (λ e. rw (node_new n s c e) b.0)
+    (λ e. rw (node_old n s c (omega arith)) (node_below k s b.1 c (omega arith)))
 
 -- ---- what a record's words say
 
 module _ (w : List ℕ) (c i : ℕ) where
   -- `$` alone: three zeros
-  recorded-dollar : (n : Node) → Recorded w c i n → n ≡ dollar → (kind w c ≡ 0) × (first w c ≡ 0) × (second w c ≡ 0)
+  recorded_dollar : (n : Node) → Recorded w c i n → n ≡ dollar → (kind w c ≡ 0) × (first w c ≡ 0) × (second w c ≡ 0)
   unfolding kind_word first_word second_word
-  recorded-dollar n r e = (r.kinds ∙ ap kind_word e, r.firsts ∙ ap (first_word i) e, r.seconds ∙ ap second_word e)
+  recorded_dollar n r e = (r.kinds ∙ ap kind_word e, r.firsts ∙ ap (first_word i) e, r.seconds ∙ ap second_word e)
 
   -- any other list of entries: kind 1 or 2
-  recorded-kinds : (n : Node) → Recorded w c i n → Full n → (n ≡ dollar → ⊥) → (kind w c ≡ 1) ⊎ (kind w c ≡ 2)
+  recorded_kinds : (n : Node) → Recorded w c i n → Full n → (n ≡ dollar → ⊥) → (kind w c ≡ 1) ⊎ (kind w c ≡ 2)
   unfolding kind_word
-  recorded-kinds end r full k = absurd full
-  recorded-kinds dollar r full k = absurd (k refl)
-  recorded-kinds (push q p end) r full k = inl r.kinds
-  recorded-kinds (push q p dollar) r full k = inr r.kinds
-  recorded-kinds (push q p (push t o n)) r full k = inr r.kinds
+  recorded_kinds end r full k = absurd full
+  recorded_kinds dollar r full k = absurd (k refl)
+  recorded_kinds (push q p end) r full k = inl r.kinds
+  recorded_kinds (push q p dollar) r full k = inr r.kinds
+  recorded_kinds (push q p (push t o n)) r full k = inr r.kinds
 
-  recorded-single : (n : Node) → Recorded w c i n → Rise 0 c n → NodeBelow stop n → kind w c ≡ 1 → (first w c < c) × (second w c < stop)
+  recorded_single : (n : Node) → Recorded w c i n → Rise 0 c n → NodeBelow stop n → kind w c ≡ 1 → (first w c < c) × (second w c < stop)
   unfolding kind_word first_word second_word
-  recorded-single end r v b e = absurd (omega arith)
-  recorded-single dollar r v b e = absurd (omega arith)
-  recorded-single (push q p end) r v b e = (omega arith, omega arith)
-  recorded-single (push q p dollar) r v b e = absurd (omega arith)
-  recorded-single (push q p (push t o n)) r v b e = absurd (omega arith)
+  recorded_single end r v b e = absurd (omega arith)
+  recorded_single dollar r v b e = absurd (omega arith)
+  recorded_single (push q p end) r v b e = (omega arith, omega arith)
+  recorded_single (push q p dollar) r v b e = absurd (omega arith)
+  recorded_single (push q p (push t o n)) r v b e = absurd (omega arith)
 
   -- two or more entries, in the pool from place i on
   record Array : Type 0 where
@@ -103,27 +103,27 @@ module _ (w : List ℕ) (c i : ℕ) where
     starts : first w c ≡ i
     entries : Entries (state w) (parent w) (first w c) (second w c) c
 
-  recorded-array : (n : Node) → Recorded w c i n → Rise 0 c n → NodeBelow stop n → kind w c ≡ 2 → Array
+  recorded_array : (n : Node) → Recorded w c i n → Rise 0 c n → NodeBelow stop n → kind w c ≡ 2 → Array
   unfolding kind_word first_word second_word in_pool size
-  recorded-array end r v b e = absurd (omega arith)
-  recorded-array dollar r v b e = absurd (omega arith)
-  recorded-array (push q p end) r v b e = absurd (omega arith)
-  recorded-array (push q p dollar) r v b e = record {
+  recorded_array end r v b e = absurd (omega arith)
+  recorded_array dollar r v b e = absurd (omega arith)
+  recorded_array (push q p end) r v b e = absurd (omega arith)
+  recorded_array (push q p dollar) r v b e = record {
     long = omega arith;
     starts = r.firsts;
-    entries = rw (r.firsts, r.seconds) (filled-entries (state w) (parent w) 0 c i (push q p dollar) r.entries v b (omega arith));
+    entries = rw (r.firsts, r.seconds) (filled_entries (state w) (parent w) 0 c i (push q p dollar) r.entries v b (omega arith));
   }
-  recorded-array (push q p (push t o n)) r v b e = record {
+  recorded_array (push q p (push t o n)) r v b e = record {
     long = omega arith;
     starts = r.firsts;
-    entries = rw (r.firsts, r.seconds) (filled-entries (state w) (parent w) 0 c i (push q p (push t o n)) r.entries v b (omega arith));
+    entries = rw (r.firsts, r.seconds) (filled_entries (state w) (parent w) 0 c i (push q p (push t o n)) r.entries v b (omega arith));
   }
 
 -- ---- words that hold a good store are sound
 
 module _ (w : List ℕ) (s : Store) (v : Held w s) (g : GoodStore s) where
-  pub held-store : store_of w ≡ s
-  held-store = ap (store_in w) v.counts ∙ records_store w s v.records g.sound g.below
+  pub held_store : store_of w ≡ s
+  held_store = ap (store_in w) v.counts ∙ records_store w s v.records g.sound g.below
 
   at : (c : ℕ) → c < count w → Recorded w c (lengths w c) (node_at s c)
   at c h = records_at w s v.records c (omega (arith, v.counts))
@@ -151,16 +151,16 @@ module _ (w : List ℕ) (s : Store) (v : Held w s) (g : GoodStore s) where
   not_root c h l e = omega (arith, nodes_differ s g.sound c 0 (omega (arith, v.counts)) g.some (e ∙ sym root_node))
 
   one : (c : ℕ) → c < count w → kind w c ≡ 1 → (first w c < c) × (second w c < stop)
-  one c h e = recorded-single w c (lengths w c) (node_at s c) (at c h) (good c h).rise (good c h).below e
+  one c h e = recorded_single w c (lengths w c) (node_at s c) (at c h) (good c h).rise (good c h).below e
 
   many : (c : ℕ) → c < count w → kind w c ≡ 2 → Array w c (lengths w c)
-  many c h e = recorded-array w c (lengths w c) (node_at s c) (at c h) (good c h).rise (good c h).below e
+  many c h e = recorded_array w c (lengths w c) (node_at s c) (at c h) (good c h).rise (good c h).below e
 
   kinds : (c : ℕ) → 0 < c → c < count w → (kind w c ≡ 1) ⊎ (kind w c ≡ 2)
-  kinds c h l = recorded-kinds w c (lengths w c) (node_at s c) (at c l) (good c l).full (not_root c h l)
+  kinds c h l = recorded_kinds w c (lengths w c) (node_at s c) (at c l) (good c l).full (not_root c h l)
 
   root : (kind w 0 ≡ 0) × (first w 0 ≡ 0) × (second w 0 ≡ 0)
-  root = recorded-dollar w 0 (lengths w 0) (node_at s 0) (at 0 (omega (arith, g.some, v.counts))) root_node
+  root = recorded_dollar w 0 (lengths w 0) (node_at s 0) (at 0 (omega (arith, g.some, v.counts))) root_node
 
   sized : (c : ℕ) → c < count w → Sized w c
   sized c h =
@@ -168,10 +168,10 @@ module _ (w : List ℕ) (s : Store) (v : Held w s) (g : GoodStore s) where
       (λ z. zeroth (rw z root.0))
       (λ n. ⊎_elim (λ e. single e) (λ e. several e (many c h e).long (many c h e).entries) (kinds c (omega arith) h))
 
-  reads-differ : (c d : ℕ) → c < d → d < count w → node_in w c ≡ node_in w d → ⊥
-  reads-differ c d h l e =
+  reads_differ : (c d : ℕ) → c < d → d < count w → node_in w c ≡ node_in w d → ⊥
+  reads_differ c d h l e =
       let is : (b : ℕ) → b < count w → node_at s b ≡ node_in w b =
-      λ b k. ap (λ (u : Store). node_at u b) (sym held-store) ∙ store_node w (count w) b k in
+      λ b k. ap (λ (u : Store). node_at u b) (sym held_store) ∙ store_node w (count w) b k in
       omega (arith, nodes_differ s g.sound c d (omega (arith, v.counts)) (omega (arith, v.counts)) (is c (omega arith) ∙ e ∙ sym (is d l)))
 
   pub held_sound : SoundWords w
@@ -192,8 +192,8 @@ module _ (w : List ℕ) (s : Store) (v : Held w s) (g : GoodStore s) where
         dollar = λ c j h e l. (many c h e).entries.dollar (first w c + j) (omega arith) (omega arith);
         fit = λ c j h e l. (many c h e).entries.fit (first w c + j) (omega arith) (omega arith);
         filled = λ c h e. (many c h e).starts ∙ lengths_pool_of w c (λ d l. sized d (omega arith));
-        all_used = u ∙ ap pool (sym held-store);
-        differ = reads-differ;
+        all_used = u ∙ ap pool (sym held_store);
+        differ = reads_differ;
         unused_records = λ i h l. v.no_records i (omega arith) l;
         unused_parents = λ i h l. v.no_parents i (omega arith) l;
         unused_states = λ i h l. v.no_states i (omega arith) l;
@@ -203,7 +203,7 @@ pub encoded : (s : Store) → GoodStore s → SoundWords (words_of s)
 encoded s g = held_sound (words_of s) s (words_held s g.fits) g
 
 pub store_of_words : (s : Store) → GoodStore s → store_of (words_of s) ≡ s
-store_of_words s g = held-store (words_of s) s (words_held s g.fits) g
+store_of_words s g = held_store (words_of s) s (words_held s g.fits) g
 
 -- Two good stores of the same words are one store.
 pub unique : (s u : Store) → GoodStore s → GoodStore u → words_of s ≡ words_of u → s ≡ u

@@ -11,7 +11,7 @@ use Rattle.arena.specs.Kinds.{size}
 use Rattle.arena.specs.Below.{NodeBelow}
 use Rattle.layout.specs.Layout.{stop}
 use Rattle.layout.specs.Listing.{listing}
-use Rattle.layout.specs.Listing.Laws.{listing-stop, listing-more, Entries, entries_rest}
+use Rattle.layout.specs.Listing.Laws.{listing_stop, listing_more, Entries, entries_rest}
 
 -- from place i on stand the states and the parents of n
 abbrev pub Filled : (ℕ → ℕ) → (ℕ → ℕ) → ℕ → Node → Type 0
@@ -48,20 +48,20 @@ filled_same st pa st' pa' i (push r p n) f g j a b =
 -- ---- laid out and listed
 
 module _ (st pa : ℕ → ℕ) where
-  pub filled-listing : (i : ℕ) (n : Node) → Filled st pa i n → NodeBelow stop n → listing st pa i (size n) ≡ n
+  pub filled_listing : (i : ℕ) (n : Node) → Filled st pa i n → NodeBelow stop n → listing st pa i (size n) ≡ n
   unfolding size listing
-  filled-listing i end f b = refl
-  filled-listing i dollar f b = listing-stop st pa i 0 f.0
-  filled-listing i (push r p n) f b =
-      listing-more st pa i (size n) (omega arith) ∙ (rw (f.0, f.1, filled-listing (suc i) n f.2 b.1))
+  filled_listing i end f b = refl
+  filled_listing i dollar f b = listing_stop st pa i 0 f.0
+  filled_listing i (push r p n) f b =
+      listing_more st pa i (size n) (omega arith) ∙ (rw (f.0, f.1, filled_listing (suc i) n f.2 b.1))
 
-  pub listing-filled : (i k c : ℕ) → Entries st pa i k c → Filled st pa i (listing st pa i k)
+  pub listing_filled : (i k c : ℕ) → Entries st pa i k c → Filled st pa i (listing st pa i k)
   unfolding listing
-  listing-filled i zero c v = tt
-  listing-filled i (suc k) c v =
+  listing_filled i zero c v = tt
+  listing_filled i (suc k) c v =
       two (st i) stop
-      (λ e. rw (listing-stop st pa i k e) (e, v.dollar i (omega arith) (omega arith) e))
-      (λ n. rw (listing-more st pa i k n) (refl, refl, listing-filled (suc i) k c (entries_rest st pa i k c v)))
+      (λ e. rw (listing_stop st pa i k e) (e, v.dollar i (omega arith) (omega arith) e))
+      (λ n. rw (listing_more st pa i k n) (refl, refl, listing_filled (suc i) k c (entries_rest st pa i k c v)))
 
   -- ---- rising entries below `stop` are sound where they are laid out
 
@@ -83,18 +83,18 @@ module _ (st pa : ℕ → ℕ) where
   }
 
   -- the first state is not below where the states begin
-  first-state : (lo c i : ℕ) (n : Node) → Filled st pa i n → Rise lo c n → lo ≤ stop → 0 < size n → lo ≤ st i
+  first_state : (lo c i : ℕ) (n : Node) → Filled st pa i n → Rise lo c n → lo ≤ stop → 0 < size n → lo ≤ st i
   unfolding size
-  first-state lo c i end f v h l = absurd (omega arith)
-  first-state lo c i dollar f v h l = omega arith
-  first-state lo c i (push r p n) f v h l = omega arith
+  first_state lo c i end f v h l = absurd (omega arith)
+  first_state lo c i dollar f v h l = omega arith
+  first_state lo c i (push r p n) f v h l = omega arith
 
-  pub filled-entries : (lo c i : ℕ) (n : Node) → Filled st pa i n → Rise lo c n → NodeBelow stop n → 0 < c → Entries st pa i (size n) c
+  pub filled_entries : (lo c i : ℕ) (n : Node) → Filled st pa i n → Rise lo c n → NodeBelow stop n → 0 < c → Entries st pa i (size n) c
   unfolding size
-  filled-entries lo c i end f v b h = no_more i c
-  filled-entries lo c i dollar f v b h =
+  filled_entries lo c i end f v b h = no_more i c
+  filled_entries lo c i dollar f v b h =
       one_more i 0 c (no_more (suc i) c) (omega arith) (omega arith) (λ l. absurd (omega arith)) (λ e. f.1)
-  filled-entries lo c i (push r p n) f v b h =
-      one_more i (size n) c (filled-entries (suc r) c (suc i) n f.2 v.2 b.1 h) (omega arith) (omega arith)
-      (λ l. omega (arith, first-state (suc r) c (suc i) n f.2 v.2 (omega arith) l))
+  filled_entries lo c i (push r p n) f v b h =
+      one_more i (size n) c (filled_entries (suc r) c (suc i) n f.2 v.2 b.1 h) (omega arith) (omega arith)
+      (λ l. omega (arith, first_state (suc r) c (suc i) n f.2 v.2 (omega arith) l))
       (λ e. absurd (omega arith))

@@ -8,7 +8,7 @@ use Rattle.arena.specs.Kinds.Laws.{room_many}
 use Rattle.arena.specs.Room.{room, pool}
 use Rattle.layout.specs.Listing.Laws.{Entries, listing_size}
 use Rattle.layout.specs.Decode.{node_in, store_in}
-use Rattle.layout.specs.Decode.Laws.{node-zero, node-one, node-many}
+use Rattle.layout.specs.Decode.Laws.{node_zero, node_one, node_many}
 use Rattle.layout.specs.Sound.{SoundWords}
 
 -- ---- the pool entries of the first records
@@ -16,25 +16,25 @@ use Rattle.layout.specs.Sound.{SoundWords}
 -- the pool entries of the arrays among the first c records
 unfoldable pub lengths : List ℕ → ℕ → ℕ
 lengths w zero = 0
-lengths w (suc c) = lengths w c + arrayLength (kind w c) (second w c)
+lengths w (suc c) = lengths w c + array_length (kind w c) (second w c)
   where
-    arrayLength : ℕ → ℕ → ℕ
-    arrayLength zero b = 0
-    arrayLength (suc zero) b = 0
-    arrayLength (suc (suc k)) b = b
+    array_length : ℕ → ℕ → ℕ
+    array_length zero b = 0
+    array_length (suc zero) b = 0
+    array_length (suc (suc k)) b = b
 
 module _ (w : List ℕ) (c : ℕ) where
-  pub lengths-zero : kind w c ≡ 0 → lengths w (suc c) ≡ lengths w c
+  pub lengths_zero : kind w c ≡ 0 → lengths w (suc c) ≡ lengths w c
   unfolding lengths
-  lengths-zero e = rw e (omega arith)
+  lengths_zero e = rw e (omega arith)
 
-  pub lengths-one : kind w c ≡ 1 → lengths w (suc c) ≡ lengths w c
+  pub lengths_one : kind w c ≡ 1 → lengths w (suc c) ≡ lengths w c
   unfolding lengths
-  lengths-one e = rw e (omega arith)
+  lengths_one e = rw e (omega arith)
 
-  pub lengths-two : kind w c ≡ 2 → lengths w (suc c) ≡ lengths w c + second w c
+  pub lengths_two : kind w c ≡ 2 → lengths w (suc c) ≡ lengths w c + second w c
   unfolding lengths
-  lengths-two e = rw e
+  lengths_two e = rw e
 
 pub lengths_up : (w : List ℕ) (c : ℕ) → lengths w c ≤ lengths w (suc c)
 unfolding lengths
@@ -50,8 +50,8 @@ lengths_le w c (suc d) h =
 
 module _ (w : List ℕ) (v : SoundWords w) (c : ℕ) (h : c < count w) where
   -- context 0 alone has kind 0
-  pub kind-zero : kind w c ≡ 0 → c ≡ 0
-  kind-zero e =
+  pub kind_zero : kind w c ≡ 0 → c ≡ 0
+  kind_zero e =
       two c 0 (λ z. z) (λ n. absurd (go (v.kinds c (omega arith) h)))
     where
       go : (kind w c ≡ 1) ⊎ (kind w c ≡ 2) → ⊥
@@ -66,16 +66,16 @@ module _ (w : List ℕ) (v : SoundWords w) (c : ℕ) (h : c < count w) where
       go (inl k) = one k
       go (inr k) = many k
 
-  pub kind-most : kind w c ≤ 2
-  kind-most = kind? (λ e. omega arith) (λ e. omega arith) (λ e. omega arith)
+  pub kind_most : kind w c ≤ 2
+  kind_most = kind? (λ e. omega arith) (λ e. omega arith) (λ e. omega arith)
 
   -- kind 1: the parent is older, and the state is no `$`
   pub single_reads : kind w c ≡ 1 → (first w c < c) × (second w c < stop)
   single_reads e = (v.older c h e, omega (arith, v.single c h e))
 
   -- kind 2: sound entries, within the part of the pool that is in use
-  pub array-entries : kind w c ≡ 2 → Entries (state w) (parent w) (first w c) (second w c) c
-  array-entries e =
+  pub array_entries : kind w c ≡ 2 → Entries (state w) (parent w) (first w c) (second w c) c
+  array_entries e =
       let at : (j : ℕ) → first w c ≤ j → first w c + (j - first w c) ≡ j = λ j a. omega arith in
       let after : (j : ℕ) → first w c ≤ j → first w c + suc (j - first w c) ≡ suc j = λ j a. omega arith in
       record {
@@ -94,15 +94,15 @@ pub data Sized (w : List ℕ) (c : ℕ) : Type 0 where
   several : kind w c ≡ 2 → 2 ≤ second w c → Entries (state w) (parent w) (first w c) (second w c) c → Sized w c
 
 pub node_many_size : (w : List ℕ) (c : ℕ) → kind w c ≡ 2 → Entries (state w) (parent w) (first w c) (second w c) c → size (node_in w c) ≡ second w c
-node_many_size w c e v = ap size (node-many w c e) ∙ listing_size (state w) (parent w) (first w c) (second w c) c v
+node_many_size w c e v = ap size (node_many w c e) ∙ listing_size (state w) (parent w) (first w c) (second w c) c v
 
 sized_lengths : (w : List ℕ) (c : ℕ) → Sized w c → lengths w (suc c) ≡ lengths w c + room (node_in w c)
 unfolding room
-sized_lengths w c (zeroth e) = lengths-zero w c e ∙ (rw (node-zero w c e) (omega arith))
-sized_lengths w c (single e) = lengths-one w c e ∙ (rw (node-one w c e) (omega arith))
+sized_lengths w c (zeroth e) = lengths_zero w c e ∙ (rw (node_zero w c e) (omega arith))
+sized_lengths w c (single e) = lengths_one w c e ∙ (rw (node_one w c e) (omega arith))
 sized_lengths w c (several e h v) =
     let q : size (node_in w c) ≡ second w c = node_many_size w c e v in
-    lengths-two w c e ∙ ap (λ (k : ℕ). lengths w c + k) (sym (room_many (node_in w c) (omega arith) ∙ q))
+    lengths_two w c e ∙ ap (λ (k : ℕ). lengths w c + k) (sym (room_many (node_in w c) (omega arith) ∙ q))
 
 pub lengths_pool_of : (w : List ℕ) (c : ℕ) → ((d : ℕ) → d < c → Sized w d) → lengths w c ≡ pool (store_in w c)
 unfolding lengths store_in pool
@@ -110,17 +110,17 @@ lengths_pool_of w zero h = refl
 lengths_pool_of w (suc c) h = sized_lengths w c (h c (omega arith)) ∙ (rw (lengths_pool_of w c (λ d l. h d (omega arith))))
 
 module _ (w : List ℕ) (v : SoundWords w) where
-  sound-sized : (c : ℕ) → c < count w → Sized w c
-  sound-sized c h = kind? w v c h zeroth single (λ e. several e (v.long c h e) (array-entries w v c h e))
+  sound_sized : (c : ℕ) → c < count w → Sized w c
+  sound_sized c h = kind? w v c h zeroth single (λ e. several e (v.long c h e) (array_entries w v c h e))
 
-  lengths-pool : (c : ℕ) → c ≤ count w → lengths w c ≡ pool (store_in w c)
-  lengths-pool c h = lengths_pool_of w c (λ d l. sound-sized d (omega arith))
+  lengths_pool : (c : ℕ) → c ≤ count w → lengths w c ≡ pool (store_in w c)
+  lengths_pool c h = lengths_pool_of w c (λ d l. sound_sized d (omega arith))
 
-  pub first-lengths : (c : ℕ) → c < count w → kind w c ≡ 2 → first w c ≡ lengths w c
-  first-lengths c h e = v.filled c h e ∙ sym (lengths-pool c (omega arith))
+  pub first_lengths : (c : ℕ) → c < count w → kind w c ≡ 2 → first w c ≡ lengths w c
+  first_lengths c h e = v.filled c h e ∙ sym (lengths_pool c (omega arith))
 
-  pub used-lengths : used w ≡ lengths w (count w)
-  used-lengths = v.all_used ∙ sym (lengths-pool (count w) (omega arith))
+  pub used_lengths : used w ≡ lengths w (count w)
+  used_lengths = v.all_used ∙ sym (lengths_pool (count w) (omega arith))
 
-  pub array-fits : (c : ℕ) → c < count w → kind w c ≡ 2 → first w c + second w c ≤ used w
-  array-fits c h e = omega (arith, first-lengths c h e, used-lengths, lengths-two w c e, lengths_le w (suc c) (count w) h)
+  pub array_fits : (c : ℕ) → c < count w → kind w c ≡ 2 → first w c + second w c ≤ used w
+  array_fits c h e = omega (arith, first_lengths c h e, used_lengths, lengths_two w c e, lengths_le w (suc c) (count w) h)

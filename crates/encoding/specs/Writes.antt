@@ -47,44 +47,44 @@ get_or_blank n j h = get_or-replicate {A = ℕ} n j 0 0 h
 -- ---- the two counts
 
 module _ (w : List ℕ) (c i : ℕ) where
-  pub counts-other : (j : ℕ) → 2 ≤ j → get_or (put_counts w c i) j 0 ≡ get_or w j 0
+  pub counts_other : (j : ℕ) → 2 ≤ j → get_or (put_counts w c i) j 0 ≡ get_or w j 0
   unfolding put_counts
-  counts-other j h = get_or-set_other (set w 0 c) 1 j i 0 (omega arith) ∙ get_or-set_other w 0 j c 0 (omega arith)
+  counts_other j h = get_or-set_other (set w 0 c) 1 j i 0 (omega arith) ∙ get_or-set_other w 0 j c 0 (omega arith)
 
-  pub counts-count : length w ≡ store_words → count (put_counts w c i) ≡ c
+  pub counts_count : length w ≡ store_words → count (put_counts w c i) ≡ c
   unfolding put_counts count
-  counts-count l = get_or-set_other (set w 0 c) 1 0 i 0 (omega arith) ∙ get_or-set_same w 0 c 0 (omega arith)
+  counts_count l = get_or-set_other (set w 0 c) 1 0 i 0 (omega arith) ∙ get_or-set_same w 0 c 0 (omega arith)
 
-  pub counts-used : length w ≡ store_words → used (put_counts w c i) ≡ i
+  pub counts_used : length w ≡ store_words → used (put_counts w c i) ≡ i
   unfolding put_counts used
-  counts-used l = get_or-set_same (set w 0 c) 1 i 0 (simp length-set (omega arith))
+  counts_used l = get_or-set_same (set w 0 c) 1 i 0 (simp length-set (omega arith))
 
 -- ---- the three words of a record
 
 module _ (w : List ℕ) (c k a b : ℕ) where
-  pub record-other : (j : ℕ) → j ≢ 2 + 3 * c → j ≢ 2 + 3 * c + 1 → j ≢ 2 + 3 * c + 2 → get_or (put_record w c k a b) j 0 ≡ get_or w j 0
+  pub record_other : (j : ℕ) → j ≢ 2 + 3 * c → j ≢ 2 + 3 * c + 1 → j ≢ 2 + 3 * c + 2 → get_or (put_record w c k a b) j 0 ≡ get_or w j 0
   unfolding put_record
-  record-other j p q r = rw (get_or-set_other, get_or-set_other, get_or-set_other)
+  record_other j p q r = rw (get_or-set_other, get_or-set_other, get_or-set_other)
 
   module _ (l : length w ≡ store_words) (h : c < 512) where
-    pub record-kind : kind (put_record w c k a b) c ≡ k
+    pub record_kind : kind (put_record w c k a b) c ≡ k
     unfolding put_record kind
-    record-kind =
+    record_kind =
         let p : 2 + 3 * c ≢ 2 + 3 * c + 1 = omega arith in
         let q : 2 + 3 * c ≢ 2 + 3 * c + 2 = omega arith in
         let r : 2 + 3 * c < length w = omega arith in
         rw (get_or-set_other, get_or-set_other, get_or-set_same)
 
-    pub record-first : first (put_record w c k a b) c ≡ a
+    pub record_first : first (put_record w c k a b) c ≡ a
     unfolding put_record first
-    record-first =
+    record_first =
         let p : 2 + 3 * c + 1 ≢ 2 + 3 * c + 2 = omega arith in
         let q : 2 + 3 * c + 1 < length (set w (2 + 3 * c) k) = simp length-set (omega arith) in
         rw (get_or-set_other, get_or-set_same)
 
-    pub record-second : second (put_record w c k a b) c ≡ b
+    pub record_second : second (put_record w c k a b) c ≡ b
     unfolding put_record second
-    record-second =
+    record_second =
         let p : 2 + 3 * c + 2 < length (set (set w (2 + 3 * c) k) (2 + 3 * c + 1) a) = simp length-set (omega arith) in
         rw get_or-set_same
 
@@ -106,30 +106,30 @@ fill_other w i (push r p n) j h =
     ∙ get_or-set_other (set w (1538 + i) p) (3586 + i) j r 0 o.1 ∙ get_or-set_other w (1538 + i) j p 0 o.0
 
 module _ (w : List ℕ) (i p r : ℕ) (l : length w ≡ store_words) (h : i < 2048) where
-  pool-state : state (put_pool w i p r) i ≡ r
+  pool_state : state (put_pool w i p r) i ≡ r
   unfolding put_pool state
-  pool-state = get_or-set_same (set w (1538 + i) p) (3586 + i) r 0 (simp length-set (omega arith))
+  pool_state = get_or-set_same (set w (1538 + i) p) (3586 + i) r 0 (simp length-set (omega arith))
 
-  pool-parent : parent (put_pool w i p r) i ≡ p
+  pool_parent : parent (put_pool w i p r) i ≡ p
   unfolding put_pool parent
-  pool-parent = get_or-set_other (set w (1538 + i) p) (3586 + i) (1538 + i) r 0 (omega arith) ∙ get_or-set_same w (1538 + i) p 0 (omega arith)
+  pool_parent = get_or-set_other (set w (1538 + i) p) (3586 + i) (1538 + i) r 0 (omega arith) ∙ get_or-set_same w (1538 + i) p 0 (omega arith)
 
 module _ (w : List ℕ) (i : ℕ) (n : Node) (h : i + size n ≤ 2048) (j : ℕ) (l : j < i) where
-  fill-state : state (fill w i n) j ≡ state w j
+  fill_state : state (fill w i n) j ≡ state w j
   unfolding state
-  fill-state = fill_other w i n (3586 + j) (λ e a b. omega arith)
+  fill_state = fill_other w i n (3586 + j) (λ e a b. omega arith)
 
-  fill-parent : parent (fill w i n) j ≡ parent w j
+  fill_parent : parent (fill w i n) j ≡ parent w j
   unfolding parent
-  fill-parent = fill_other w i n (1538 + j) (λ e a b. omega arith)
+  fill_parent = fill_other w i n (1538 + j) (λ e a b. omega arith)
 
 pub fill_filled : (w : List ℕ) (i : ℕ) (n : Node) → length w ≡ store_words → i + size n ≤ 2048 → Filled (state (fill w i n)) (parent (fill w i n)) i n
 unfolding fill size
 fill_filled w i end l h = tt
-fill_filled w i dollar l h = (pool-state w i 0 stop l (omega arith), pool-parent w i 0 stop l (omega arith))
+fill_filled w i dollar l h = (pool_state w i 0 stop l (omega arith), pool_parent w i 0 stop l (omega arith))
 fill_filled w i (push r p n) l h =
     let u : List ℕ = put_pool w i p r in (
-      fill-state u (suc i) n (omega arith) i (omega arith) ∙ pool-state w i p r l (omega arith),
-      fill-parent u (suc i) n (omega arith) i (omega arith) ∙ pool-parent w i p r l (omega arith),
+      fill_state u (suc i) n (omega arith) i (omega arith) ∙ pool_state w i p r l (omega arith),
+      fill_parent u (suc i) n (omega arith) i (omega arith) ∙ pool_parent w i p r l (omega arith),
       fill_filled u (suc i) n (length_fill w i (push r p end) ∙ l) (omega arith),
     )

@@ -12,8 +12,8 @@ use Rattle.layout.specs.Encode.{fill, put_record, put_counts, put_node, written,
 use Rattle.layout.specs.Ceilings.{Fits}
 use Rattle.encoding.specs.Filled.{filled_agree}
 use Rattle.encoding.specs.Held.{kind_word, first_word, second_word, in_pool, size_in_pool, Recorded, Held, Agree, records_agree}
-use Rattle.encoding.specs.Writes.{length_fill, length_put_record, length_put_counts, length_put_node, length_blank, get_or_blank, counts-other, counts-count, counts-used, record-other}
-use Rattle.encoding.specs.Writes.{record-kind, record-first, record-second, Outside, fill_other, fill_filled}
+use Rattle.encoding.specs.Writes.{length_fill, length_put_record, length_put_counts, length_put_node, length_blank, get_or_blank, counts_other, counts_count, counts_used, record_other}
+use Rattle.encoding.specs.Writes.{record_kind, record_first, record_second, Outside, fill_other, fill_filled}
 
 -- ---- one record more
 
@@ -23,20 +23,20 @@ same_set w j e = ap (set w j) (sym e) ∙ set-get_or w j 0
 
 -- each kind of record is written in one way: its pool entries, and its three words
 module _ (w : List ℕ) (c i : ℕ) (k : kind w c ≡ 0) (a : first w c ≡ 0) (b : second w c ≡ 0) where
-  put-zeros : put_record w c 0 0 0 ≡ w
+  put_zeros : put_record w c 0 0 0 ≡ w
   unfolding put_record kind first second
-  put-zeros =
+  put_zeros =
       ap (λ (u : List ℕ). set (set u (2 + 3 * c + 1) 0) (2 + 3 * c + 2) 0) (same_set w (2 + 3 * c) k)
       ∙ ap (λ (u : List ℕ). set u (2 + 3 * c + 2) 0) (same_set w (2 + 3 * c + 1) a)
       ∙ same_set w (2 + 3 * c + 2) b
 
-  put-node : (n : Node) → put_node w c i n ≡ put_record (fill w i (in_pool n)) c (kind_word n) (first_word i n) (second_word n)
+  put_node_lem : (n : Node) → put_node w c i n ≡ put_record (fill w i (in_pool n)) c (kind_word n) (first_word i n) (second_word n)
   unfolding put_node fill in_pool kind_word first_word second_word
-  put-node end = sym put-zeros
-  put-node dollar = sym put-zeros
-  put-node (push r p end) = refl
-  put-node (push r p dollar) = refl
-  put-node (push r p (push q o n)) = refl
+  put_node_lem end = sym put_zeros
+  put_node_lem dollar = sym put_zeros
+  put_node_lem (push r p end) = refl
+  put_node_lem (push r p dollar) = refl
+  put_node_lem (push r p (push q o n)) = refl
 
 module _ (w : List ℕ) (s : Store) (n : Node) (h : Held w s) (fits : Fits (n ∷ s)) where
   -- the words after the pool entries, after the record, and after the counts
@@ -49,70 +49,70 @@ module _ (w : List ℕ) (s : Store) (n : Node) (h : Held w s) (fits : Fits (n �
   counted : List ℕ
   counted = put_counts recorded (suc (length s)) (pool s + room n)
 
-  length-filled : length filled ≡ store_words
+  length_filled : length filled ≡ store_words
   unfolding filled
-  length-filled = length_fill w (pool s) (in_pool n) ∙ h.long
+  length_filled = length_fill w (pool s) (in_pool n) ∙ h.long
 
-  length-recorded : length recorded ≡ store_words
+  length_recorded : length recorded ≡ store_words
   unfolding recorded
-  length-recorded = length_put_record filled (length s) _ _ _ ∙ length-filled
+  length_recorded = length_put_record filled (length s) _ _ _ ∙ length_filled
 
-  length-counted : length counted ≡ store_words
+  length_counted : length counted ≡ store_words
   unfolding counted
-  length-counted = length_put_counts recorded _ _ ∙ length-recorded
+  length_counted = length_put_counts recorded _ _ ∙ length_recorded
 
   -- no other word has changed
   abbrev Elsewhere : ℕ → Type 0
   Elsewhere j = (2 ≤ j) × (j ≢ 2 + 3 * length s) × (j ≢ 2 + 3 * length s + 1) × (j ≢ 2 + 3 * length s + 2) × Outside (pool s) (room n) j
 
-  counted-other : (j : ℕ) → Elsewhere j → get_or counted j 0 ≡ get_or w j 0
+  counted_other : (j : ℕ) → Elsewhere j → get_or counted j 0 ≡ get_or w j 0
   unfolding counted recorded filled
-  counted-other j o =
-      counts-other recorded _ _ j o.0
-      ∙ record-other filled (length s) _ _ _ j o.1 o.2 o.3
+  counted_other j o =
+      counts_other recorded _ _ j o.0
+      ∙ record_other filled (length s) _ _ _ j o.1 o.2 o.3
       ∙ fill_other w (pool s) (in_pool n) j (rw (size_in_pool n) o.4)
 
-  counted-agree : Agree w counted (length s) (pool s)
+  counted_agree : Agree w counted (length s) (pool s)
   unfolding parent state pool
-  counted-agree = record {
-    low = λ j a b. counted-other j (omega arith);
-    parents = λ j a. counted-other (1538 + j) (omega arith);
-    states = λ j a. counted-other (3586 + j) (omega arith);
+  counted_agree = record {
+    low = λ j a b. counted_other j (omega arith);
+    parents = λ j a. counted_other (1538 + j) (omega arith);
+    states = λ j a. counted_other (3586 + j) (omega arith);
   }
 
-  counted-entries : (j : ℕ) → 1538 ≤ j → get_or counted j 0 ≡ get_or filled j 0
+  counted_entries : (j : ℕ) → 1538 ≤ j → get_or counted j 0 ≡ get_or filled j 0
   unfolding counted recorded
-  counted-entries j l = counts-other recorded _ _ j (omega arith) ∙ record-other filled (length s) _ _ _ j (omega arith) (omega arith) (omega arith)
+  counted_entries j l = counts_other recorded _ _ j (omega arith) ∙ record_other filled (length s) _ _ _ j (omega arith) (omega arith) (omega arith)
 
-  counted-recorded : Recorded counted (length s) (pool s) n
+  counted_recorded : Recorded counted (length s) (pool s) n
   unfolding counted recorded filled kind first second parent state pool
-  counted-recorded = record {
-    kinds = counts-other recorded _ _ (2 + 3 * length s) (omega arith) ∙ record-kind filled (length s) _ _ _ length-filled (omega arith);
-    firsts = counts-other recorded _ _ (2 + 3 * length s + 1) (omega arith) ∙ record-first filled (length s) _ _ _ length-filled (omega arith);
-    seconds = counts-other recorded _ _ (2 + 3 * length s + 2) (omega arith) ∙ record-second filled (length s) _ _ _ length-filled (omega arith);
+  counted_recorded = record {
+    kinds = counts_other recorded _ _ (2 + 3 * length s) (omega arith) ∙ record_kind filled (length s) _ _ _ length_filled (omega arith);
+    firsts = counts_other recorded _ _ (2 + 3 * length s + 1) (omega arith) ∙ record_first filled (length s) _ _ _ length_filled (omega arith);
+    seconds = counts_other recorded _ _ (2 + 3 * length s + 2) (omega arith) ∙ record_second filled (length s) _ _ _ length_filled (omega arith);
     entries = filled_agree (state filled) (parent filled) (state counted) (parent counted) (pool s) (in_pool n)
-        (λ j a b. (counted-entries (3586 + j) (omega arith), counted-entries (1538 + j) (omega arith)))
+        (λ j a b. (counted_entries (3586 + j) (omega arith), counted_entries (1538 + j) (omega arith)))
         (fill_filled w (pool s) (in_pool n) h.long (omega (arith, size_in_pool n)));
   }
 
-  counted-held : Held counted (n ∷ s)
+  counted_held : Held counted (n ∷ s)
   unfolding counted pool parent state
-  counted-held = record {
-    long = length-counted;
-    counts = counts-count recorded _ _ length-recorded;
-    uses = counts-used recorded _ _ length-recorded;
-    records = (counted-recorded, records_agree w counted (length s) (pool s) s (omega arith) (omega arith) counted-agree h.records);
-    no_records = λ j a b. counted-other j (omega arith) ∙ h.no_records j (omega arith) b;
-    no_parents = λ i a b. counted-other (1538 + i) (omega arith) ∙ h.no_parents i (omega arith) b;
-    no_states = λ i a b. counted-other (3586 + i) (omega arith) ∙ h.no_states i (omega arith) b;
+  counted_held = record {
+    long = length_counted;
+    counts = counts_count recorded _ _ length_recorded;
+    uses = counts_used recorded _ _ length_recorded;
+    records = (counted_recorded, records_agree w counted (length s) (pool s) s (omega arith) (omega arith) counted_agree h.records);
+    no_records = λ j a b. counted_other j (omega arith) ∙ h.no_records j (omega arith) b;
+    no_parents = λ i a b. counted_other (1538 + i) (omega arith) ∙ h.no_parents i (omega arith) b;
+    no_states = λ i a b. counted_other (3586 + i) (omega arith) ∙ h.no_states i (omega arith) b;
   }
 
   pub written_held : Held (written w s n) (n ∷ s)
   unfolding written counted recorded filled kind first second
   written_held =
-      rw (put-node w (length s) (pool s)
+      rw (put_node_lem w (length s) (pool s)
       (h.no_records _ (omega arith) (omega arith)) (h.no_records _ (omega arith) (omega arith)) (h.no_records _ (omega arith) (omega arith)) n)
-      counted-held
+      counted_held
 
 -- ---- all records
 

@@ -11,7 +11,7 @@ use Rattle.arena.specs.Below.{NodeBelow}
 use Rattle.layout.specs.Layout.{stop}
 use Rattle.work.specs.Heads.{head_state, head_parent, tail, cons, cons_stop, cons_push}
 use Rattle.layout.specs.Listing.{listing}
-use Rattle.layout.specs.Listing.Laws.{Entries, entries_rest, listing-stop, listing-more, stop_last}
+use Rattle.layout.specs.Listing.Laws.{Entries, entries_rest, listing_stop, listing_more, stop_last}
 
 -- the entries from place i on
 unfoldable pub rest : Node → ℕ → Node
@@ -99,34 +99,34 @@ head_dollar (push r p n) b e = absurd (omega (arith, b.0))
 -- ---- a list of words by its heads
 
 module _ (st pa : ℕ → ℕ) (c : ℕ) where
-  pub rest-listing : (i k j : ℕ) → Entries st pa i k c → j ≤ k → rest (listing st pa i k) j ≡ listing st pa (i + j) (k - j)
+  pub rest_listing : (i k j : ℕ) → Entries st pa i k c → j ≤ k → rest (listing st pa i k) j ≡ listing st pa (i + j) (k - j)
   unfolding rest listing
-  rest-listing i k zero v h = let a : i + 0 ≡ i = omega arith in let b : k - 0 ≡ k = omega arith in rw (a, b)
-  rest-listing i zero (suc j) v h = absurd (omega arith)
-  rest-listing i (suc k) (suc j) v h =
+  rest_listing i k zero v h = let a : i + 0 ≡ i = omega arith in let b : k - 0 ≡ k = omega arith in rw (a, b)
+  rest_listing i zero (suc j) v h = absurd (omega arith)
+  rest_listing i (suc k) (suc j) v h =
       let a : i + suc j ≡ suc i + j = omega arith in
       let b : suc k - suc j ≡ k - j = omega arith in
       two (st i) stop
       (λ e.
       let z : k ≡ 0 = stop_last st pa i k c v e in
       let d : k - j ≡ 0 = omega arith in
-      rw (listing-stop st pa i k e, b, d))
-      (λ n. rw (listing-more st pa i k n, a, b) (rest-listing (suc i) k j (entries_rest st pa i k c v) (omega arith)))
+      rw (listing_stop st pa i k e, b, d))
+      (λ n. rw (listing_more st pa i k n, a, b) (rest_listing (suc i) k j (entries_rest st pa i k c v) (omega arith)))
 
-  head-listing : (i k : ℕ) → Entries st pa i (suc k) c → (head_state (listing st pa i (suc k)) ≡ st i) × (head_parent (listing st pa i (suc k)) ≡ pa i)
+  head_listing : (i k : ℕ) → Entries st pa i (suc k) c → (head_state (listing st pa i (suc k)) ≡ st i) × (head_parent (listing st pa i (suc k)) ≡ pa i)
   unfolding head_state head_parent
-  head-listing i k v =
+  head_listing i k v =
       two (st i) stop
-      (λ e. (rw (listing-stop st pa i k e) (sym e), rw (listing-stop st pa i k e) (sym (v.dollar i (omega arith) (omega arith) e))))
-      (λ n. (rw (listing-more st pa i k n), rw (listing-more st pa i k n)))
+      (λ e. (rw (listing_stop st pa i k e) (sym e), rw (listing_stop st pa i k e) (sym (v.dollar i (omega arith) (omega arith) e))))
+      (λ n. (rw (listing_more st pa i k n), rw (listing_more st pa i k n)))
 
   -- entry j of the list
-  pub entry-listing : (i k j : ℕ) → Entries st pa i k c → j < k
+  pub entry_listing : (i k j : ℕ) → Entries st pa i k c → j < k
       → (head_state (rest (listing st pa i k) j) ≡ st (i + j)) × (head_parent (rest (listing st pa i k) j) ≡ pa (i + j))
-  entry-listing i k j v h =
+  entry_listing i k j v h =
       let e : k - j ≡ suc (k - suc j) = omega arith in
       let w : Entries st pa (i + j) (suc (k - suc j)) c = rw e at (Rattle.index.specs.Walk.entries_from st pa i k c j v (omega arith)) in
-      rw (rest-listing i k j v (omega arith), e) (head-listing (i + j) (k - suc j) w)
+      rw (rest_listing i k j v (omega arith), e) (head_listing (i + j) (k - suc j) w)
 
 -- ---- a list of entries by its head
 

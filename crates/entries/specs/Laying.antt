@@ -11,7 +11,7 @@ use Rattle.index.specs.Writes.{put_entry}
 use Rattle.interning.specs.Live.{Live}
 use Rattle.work.specs.Heads.{cons}
 use Rattle.entries.specs.StackAhead.{onto}
-use Rattle.entries.specs.StackEntry.{Under, push-length, push-between, push-under, push-onto, push-entries}
+use Rattle.entries.specs.StackEntry.{Under, push_length, push_between, push_under, push_onto, push_entries}
 
 -- n entries of contexts of s are on the stack from `top` on
 abbrev pub Stacks : Store → List ℕ → ℕ → ℕ → Type 0
@@ -62,12 +62,12 @@ pub lay : (w z : List ℕ) (top n p r : ℕ) → Live w z → Stacks (store_of w
     → (y : List ℕ) → y ≡ put_entry z (top + n) p r → Laid w z top n p r y
 lay w z top n p r v e x y ey =
     let l = v.index.sized in
-    let same = push-between z top n p r l x.room y ey in
+    let same = push_between z top n p r l x.room y ey in
     record {
-      live = live_moved w z y (top + n) (push-length z top n p r l x.room y ey) same v;
-      entries = push-entries z top n p r l x.room y ey (length (store_of w)) e x.most x.older x.dollar x.under;
+      live = live_moved w z y (top + n) (push_length z top n p r l x.room y ey) same v;
+      entries = push_entries z top n p r l x.room y ey (length (store_of w)) e x.most x.older x.dollar x.under;
       same = same;
       high = λ i h. rw ey (entry_high z (top + n) p r x.room i h);
-      onward = push-onto z top n p r l x.room y ey;
-      under = push-under z top n p r l x.room y ey;
+      onward = push_onto z top n p r l x.room y ey;
+      under = push_under z top n p r l x.room y ey;
     }

@@ -18,7 +18,7 @@ use Rattle.encoding.specs.Encoded.{node_below}
 use Rattle.index.specs.Records.{stack_node}
 use Rattle.index.specs.Writes.{put_entry}
 use Rattle.store.specs.Asks.{Known}
-use Rattle.interning.specs.Live.{Live, Pushed, GrewTo, live-sound, live-count, live-length}
+use Rattle.interning.specs.Live.{Live, Pushed, GrewTo, live_sound, live_count, live_length}
 use Rattle.interning.specs.Interned.{More, Interns}
 use Rattle.work.specs.Heads.{head_state, head_parent, cons, tail, cons_stop, cons_push}
 use Rattle.entries.specs.EntriesFrom.{rest, rest_next, rest_size, rest_none, size_full, rest_rise, rest_below, head_rises, head_most, head_older, head_dollar, head_cons}
@@ -55,7 +55,7 @@ Extends w z top x NoRoom v u = (Fits x.1 → ⊥) × (v ≡ w) × (length u ≡ 
 
 -- a live store's context can be read
 pub live_known : {w z : List ℕ} → Live w z → (c : ℕ) → c < length (store_of w) → Known w c
-live_known v c h = record { sized = live-length v; sound = live-sound v; below = rw (live-count v) h }
+live_known v c h = record { sized = live_length v; sound = live_sound v; below = rw (live_count v) h }
 
 -- ---- a turn of the loop
 
@@ -80,9 +80,9 @@ module _ {w z₀ : List ℕ} {c i₀ top n₀ : ℕ} {z : List ℕ} {i n : ℕ} 
   rises : Rise 0 (length (store_of w)) (rest N i)
   rises = rest_rise N i 0 (length (store_of w)) (node_rise (store_of w) v.now.live.good.sound c v.now.known)
 
-  pub tail-done : size N ≤ i → (Pushed w z top n) × (stack_node z top n ≡ ahead z₀ top n₀ (rest N i₀))
+  pub tail_done : size N ≤ i → (Pushed w z top n) × (stack_node z top n ≡ ahead z₀ top n₀ (rest N i₀))
   unfolding listing
-  tail-done h =
+  tail_done h =
       let e : n + 0 ≡ n = omega arith in
       let l : ahead z top n end ≡ stack_node z top n = onto_listing (stack_state z) (stack_parent z) top n 0 ∙ ap (stack_node z top) e in (
         record {
@@ -93,8 +93,8 @@ module _ {w z₀ : List ℕ} {c i₀ top n₀ : ℕ} {z : List ℕ} {i n : ℕ} 
       )
 
   module _ (h : i < size N) {p r : ℕ} (ep : p ≡ head_parent (rest N i)) (er : r ≡ head_state (rest N i)) where
-    pub tail-next : Next (store_of w) z top n p r
-    tail-next = record {
+    pub tail_next : Next (store_of w) z top n p r
+    tail_next = record {
       room = omega (arith, v.now.room);
       most = rw er (head_most (rest N i) below);
       older = rw ep (head_older (rest N i) 0 (length (store_of w)) v.now.live.good.some rises);
@@ -102,9 +102,9 @@ module _ {w z₀ : List ℕ} {c i₀ top n₀ : ℕ} {z : List ℕ} {i n : ℕ} 
       under = rw er (v.now.under h);
     }
 
-    pub tail-turn : (y : List ℕ) → y ≡ put_entry z (top + n) p r → Tail w z₀ c i₀ top n₀ y (i + 1) (n + 1)
-    tail-turn y ey =
-        let g : Laid w z top n p r y = lay w z top n p r v.now.live v.now.entries tail-next y ey in
+    pub tail_turn : (y : List ℕ) → y ≡ put_entry z (top + n) p r → Tail w z₀ c i₀ top n₀ y (i + 1) (n + 1)
+    tail_turn y ey =
+        let g : Laid w z top n p r y = lay w z top n p r v.now.live v.now.entries tail_next y ey in
         let full : Full (rest N i) = size_full (rest N i) (rw (rest_size N i) (omega arith)) in
         rw (add-one i, add-one n) (record {
           now = record {
@@ -112,7 +112,7 @@ module _ {w z₀ : List ℕ} {c i₀ top n₀ : ℕ} {z : List ℕ} {i n : ℕ} 
             known = v.now.known;
             within = omega arith;
             entries = g.entries;
-            under = λ q. g.under _ (under_le z top n _ _ (omega (arith, er, next q)) tail-next.under) (rw er (next q));
+            under = λ q. g.under _ (under_le z top n _ _ (omega (arith, er, next q)) tail_next.under) (rw er (next q));
             room = omega (arith, v.now.room);
           };
           same = λ e l. g.same e (omega (arith, v.grown)) ∙ v.same e l;
@@ -134,8 +134,8 @@ module _ {w z₀ : List ℕ} {c i₀ top n₀ : ℕ} {z : List ℕ} {i n : ℕ} 
 module _ {w z₀ : List ℕ} {c i₀ top n₀ : ℕ} {z : List ℕ} {i n : ℕ} (v : Tail w z₀ c i₀ top n₀ z i n) (h : size (node_at (store_of w) c) ≤ i) where
   reached : (d : ℕ) (w' u : List ℕ) → GrewTo z u w' (intern (store_of w) (stack_node z top n)) d → Extended z₀ top (whole w z₀ c i₀ top n₀) d w' u
   reached d w' u g = record {
-    number = g.number ∙ ap (λ (q : Node). (intern (store_of w) q).0) (tail-done v h).1;
-    store = g.store ∙ ap (λ (q : Node). (intern (store_of w) q).1) (tail-done v h).1;
+    number = g.number ∙ ap (λ (q : Node). (intern (store_of w) q).0) (tail_done v h).1;
+    store = g.store ∙ ap (λ (q : Node). (intern (store_of w) q).1) (tail_done v h).1;
     live = g.live;
     same = λ e a b. g.above e a ∙ v.same e (omega arith);
     after = λ e a. g.above e (omega arith) ∙ v.after e a;
@@ -144,11 +144,11 @@ module _ {w z₀ : List ℕ} {c i₀ top n₀ : ℕ} {z : List ℕ} {i n : ℕ} 
   pub finished : (r : Interned) (w' u : List ℕ) → Interns w z top n r w' u → Extends w z₀ top (whole w z₀ c i₀ top n₀) r w' u
   finished (Found d) w' u g = (reached d.0 w' u g.0, g.1)
   finished (Made d) w' u g = (reached d.0 w' u g.0, g.1)
-  finished NoRoom w' u g = (λ f. g.0 (rw (tail-done v h).1 f), g.1, ap length g.2 ∙ v.now.live.index.sized)
+  finished NoRoom w' u g = (λ f. g.0 (rw (tail_done v h).1 f), g.1, ap length g.2 ∙ v.now.live.index.sized)
 
 -- whatever it answers, lengths are kept
 pub extends_lengths : {w z : List ℕ} {c i top n : ℕ} → Finishing w z c i top n → (r : Interned) (w' u : List ℕ) → Extends w z top (whole w z c i top n) r w' u
     → (length w' ≡ store_words) × (length u ≡ scratch_words)
-extends_lengths v (Found x) w' u g = (live-length g.0.live, g.0.live.index.sized)
-extends_lengths v (Made x) w' u g = (live-length g.0.live, g.0.live.index.sized)
-extends_lengths v NoRoom w' u g = (ap length g.1 ∙ live-length v.live, g.2)
+extends_lengths v (Found x) w' u g = (live_length g.0.live, g.0.live.index.sized)
+extends_lengths v (Made x) w' u g = (live_length g.0.live, g.0.live.index.sized)
+extends_lengths v NoRoom w' u g = (ap length g.1 ∙ live_length v.live, g.2)

@@ -5,7 +5,7 @@ use Rattle.cases.specs.Numbers.{two}
 use Rattle.arena.specs.Store.{Node}
 use Rattle.layout.specs.Layout.{stop}
 use Rattle.layout.specs.Listing.{listing}
-use Rattle.layout.specs.Listing.Laws.{listing-stop, listing-more}
+use Rattle.layout.specs.Listing.Laws.{listing_stop, listing_more}
 use Rattle.work.specs.Heads.{cons, cons_stop, cons_push}
 
 -- the n entries from place i on, and then x
@@ -16,8 +16,8 @@ onto st pa i (suc k) x = cons (st i) (pa i) (onto st pa (suc i) k x)
 cons_listing : (st pa : ℕ → ℕ) (i k : ℕ) → cons (st i) (pa i) (listing st pa (suc i) k) ≡ listing st pa i (suc k)
 cons_listing st pa i k =
     two (st i) stop
-    (λ e. cons_stop (st i) (pa i) _ e ∙ sym (listing-stop st pa i k e))
-    (λ n. cons_push (st i) (pa i) _ n ∙ sym (listing-more st pa i k n))
+    (λ e. cons_stop (st i) (pa i) _ e ∙ sym (listing_stop st pa i k e))
+    (λ n. cons_push (st i) (pa i) _ n ∙ sym (listing_more st pa i k n))
 
 -- k entries, and then j more from where those end
 pub onto_listing : (st pa : ℕ → ℕ) (i k j : ℕ) → onto st pa i k (listing st pa (i + k) j) ≡ listing st pa i (k + j)

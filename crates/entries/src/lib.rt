@@ -1,4 +1,6 @@
 // A context's entries, read one at a time, and interned from the entry stack. All of it is internal.
+#![tactic(auto)]
+
 mod pairs;
 mod reads;
 mod rest;

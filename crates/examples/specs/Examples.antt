@@ -27,7 +27,7 @@ use Rattle.sets.specs.Calls.{lent_lengths, lent_checks, add_work, add_checks, fr
 use Rattle.sets.specs.Calls.{refusal as setRefusal}
 use Rattle.groups.specs.Lists.{which}
 use Rattle.groups.specs.Groups.{insert, rising, alts_of, together, firsts, subset, groups}
-use Rattle.groups.specs.Answers.{none, only, many, agree, smallest, single_viable_alt, unique_alt, stopped, justOne}
+use Rattle.groups.specs.Answers.{none, only, many, agree, smallest, single_viable_alt, unique_alt, stopped, just_one}
 use Rattle.groups.specs.Answers.{verdict as verdictOf}
 use Rattle.groups.specs.Reason.{stop, pick, reason}
 use Rattle.outputs.specs.Outputs.{padded}
@@ -66,7 +66,7 @@ unfolding any all fields field config_at config_count flag_word flag has_semanti
 configs = tt
 
 unfoldable subsets : Unit {0}
-unfolding which insert rising alts_of together firsts subset groups many agree smallest single_viable_alt unique_alt stopped justOne verdictOf pick reason
+unfolding which insert rising alts_of together firsts subset groups many agree smallest single_viable_alt unique_alt stopped just_one verdictOf pick reason
 subsets = tt
 
 unfoldable calls : Unit {0}

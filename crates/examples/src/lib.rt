@@ -1,1 +1,2 @@
 // Scripts whose bytes are computed from the definitions: see specs/.
+#![tactic(auto)]

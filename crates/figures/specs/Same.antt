@@ -10,7 +10,7 @@ use Rattle.words.specs.declared.refusals.Refusal.{Refusal}
 use Rattle.store.specs.Calls.{zeros, refused as storeRefused}
 use Rattle.store.specs.Told.{number_tells}
 use Rattle.store.specs.Checks.{Check, given, unless}
-use Rattle.store.specs.Checks.Laws.{Clear, passed-clear, clear_passed}
+use Rattle.store.specs.Checks.Laws.{Clear, passed_clear, clear_passed}
 use Rattle.sets.specs.Config.{Config}
 use Rattle.sets.specs.Words.{set_of}
 use Rattle.sets.specs.Calls.{lent_lengths, lent_checks}
@@ -19,7 +19,7 @@ use Rattle.outputs.specs.Outputs.{subsets_length, padded, subsets_words}
 use Rattle.deciding.specs.OneAlt.Laws.{one_tells}
 use Rattle.verdicts.specs.Calls.{Summary, VerdictReply, refused, says, alternative, written, summary, VerdictLeft, verdict_left, read_refusal, read_checks, read_call, too_many_stops}
 use Rattle.verdicts.specs.Calls.{conflicting_alt_subsets_call, unique_alt_call, single_viable_alt_call, verdict_call}
-use Rattle.verdicts.specs.Refused.{refusal-reply, ask_refuses, Refuses, verdict-refuses}
+use Rattle.verdicts.specs.Refused.{refusal_reply, ask_refuses, Refuses, verdict_refuses}
 use Rattle.figures.specs.Calls.{figures_of, figures_call}
 use Rattle.figures.specs.Replies.{summary_of, told}
 use Rattle.figures.specs.declared.answers.Figures.{Figures}
@@ -35,14 +35,14 @@ module _ (w v z stops : List ℕ) where
 
   -- ---- refused exactly when the verdict is, and leaving the same
 
-  pub figures-refuses : Refuses (figures_call w v z stops) (read_checks 0 (too_many_stops stops) w v z []) z []
+  pub figures_refuses : Refuses (figures_call w v z stops) (read_checks 0 (too_many_stops stops) w v z []) z []
   unfolding figures_call
-  figures-refuses = ask_refuses 0 (too_many_stops stops) w v z [] _ [] (summary_no _)
+  figures_refuses = ask_refuses 0 (too_many_stops stops) w v z [] _ [] (summary_no _)
 
-  pub refused-alike : (k : ℕ) → ((figures_call w v z stops).reply ≡ refused k) ↔ ((verdict_call w v z stops).reply ≡ refused k)
-  refused-alike k =
-      let f = (figures-refuses k).0 in
-      let g = (verdict-refuses w v z stops k).0 in
+  pub refused_alike : (k : ℕ) → ((figures_call w v z stops).reply ≡ refused k) ↔ ((verdict_call w v z stops).reply ≡ refused k)
+  refused_alike k =
+      let f = (figures_refuses k).0 in
+      let g = (verdict_refuses w v z stops k).0 in
       (λ e. g.1 (f.0 e), λ e. f.1 (g.0 e))
 
   -- ---- else each figure is the answer of its own call
@@ -57,17 +57,17 @@ module _ (w v z stops : List ℕ) where
     passed : Clear (read_checks 0 (too_many_stops stops) w v z [])
     unfolding figures_call read_call
     passed =
-        passed-clear (read_refusal z []) (verdict_left (summary (figures_of stops cs)) zeros []) (λ l. l.reply ≡ summary f)
-        (λ n g. summary_no f n (sym g ∙ refusal-reply z [] n)) (read_checks 0 (too_many_stops stops) w v z []) e
+        passed_clear (read_refusal z []) (verdict_left (summary (figures_of stops cs)) zeros []) (λ l. l.reply ≡ summary f)
+        (λ n g. summary_no f n (sym g ∙ refusal_reply z [] n)) (read_checks 0 (too_many_stops stops) w v z []) e
 
     lent : Clear (read_checks 0 [] w v z [])
     unfolding lent_checks
     lent = (passed.0, (passed.1.0, (passed.1.1.0, tt)))
 
     -- f is what the definition says
-    is-figures : f ≡ figures_of stops cs
+    is_figures : f ≡ figures_of stops cs
     unfolding figures_call read_call
-    is-figures =
+    is_figures =
         let r : summary (figures_of stops cs) ≡ summary f =
         sym (ap (λ (l : VerdictLeft). l.reply) (clear_passed (read_refusal z []) (verdict_left (summary (figures_of stops cs)) zeros []) (read_checks 0 (too_many_stops stops) w v z []) passed)) ∙ e in
         cc
@@ -77,19 +77,19 @@ module _ (w v z stops : List ℕ) where
     unfolding read_call
     answers r = ap (λ (l : VerdictLeft). l.reply) (clear_passed (read_refusal z []) (verdict_left r zeros []) (read_checks 0 [] w v z []) lent)
 
-    pub as-four : AsFour f
+    pub as_four : AsFour f
     unfolding unique_alt_call single_viable_alt_call verdict_call conflicting_alt_subsets_call read_call lent_checks subsets_words padded
-    as-four = record {
+    as_four = record {
       subsets = λ o l.
           ap (λ (x : VerdictLeft). get_or x.output 0 0)
           (clear_passed (read_refusal z o) (verdict_left written zeros (subsets_words cs)) (read_checks subsets_length [] w v z o) (rw (eq-eqb (length o) subsets_length l) lent))
-          ∙ ap (λ (x : Summary). x.subsets) (sym is-figures);
-      unique = answers (alternative (unique_alt cs)) ∙ ap (λ (x : Summary). alternative x.unique) (sym is-figures);
-      viable = answers (alternative (single_viable_alt cs)) ∙ ap (λ (x : Summary). alternative x.viable) (sym is-figures);
+          ∙ ap (λ (x : Summary). x.subsets) (sym is_figures);
+      unique = answers (alternative (unique_alt cs)) ∙ ap (λ (x : Summary). alternative x.unique) (sym is_figures);
+      viable = answers (alternative (single_viable_alt cs)) ∙ ap (λ (x : Summary). alternative x.viable) (sym is_figures);
       verdict =
           ap (λ (l : VerdictLeft). l.reply)
           (clear_passed (read_refusal z []) (verdict_left (says (Rattle.groups.specs.Answers.verdict stops cs)) zeros []) (read_checks 0 (too_many_stops stops) w v z []) passed)
-          ∙ ap (λ (x : Summary). says x.verdict) (sym is-figures);
+          ∙ ap (λ (x : Summary). says x.verdict) (sym is_figures);
     }
 
 -- ---- a reply tells the answer

@@ -1,5 +1,7 @@
 // All figures of a config set by one check of store and set: the number of subsets, the unique and
 // the single viable alternative, and the verdict.
+#![tactic(auto)]
+
 mod answers;
 mod call;
 

@@ -11,19 +11,19 @@ use Rattle.format.specs.Bytes.{words_at}
 use Rattle.format.specs.Format.{singleton, merge, new_set, add, stops, verdict, show, close, why, Reading, found, ended, malformed, Record as Call}
 
 -- a record of the code, by its fields' values; of stop states it has place and number, and they stand in the script's bytes s
-abbrev pub setCall : SetRecord → Call
-setCall (NewSet m) = new_set m
-setCall (Add x) = add (config_of x)
-setCall Verdict = verdict
-setCall Close = close
-setCall Why = why
+abbrev pub set_call : SetRecord → Call
+set_call (NewSet m) = new_set m
+set_call (Add x) = add (config_of x)
+set_call Verdict = verdict
+set_call Close = close
+set_call Why = why
 
 abbrev pub call_in : List ℕ → Record → Call
 call_in s (Singleton p r) = singleton p.0 r.0
 call_in s (Merge a b m) = merge a.0 b.0 m
 call_in s (Show c) = show c.0
 call_in s (Stops p n) = stops (words_at s p n)
-call_in s (OnSet x) = setCall x
+call_in s (OnSet x) = set_call x
 
 -- what the decoder answers
 abbrev pub reading : List ℕ → Step → Reading

@@ -12,7 +12,7 @@ use Rattle.format.specs.declared.records.Step.TheVariants.{Found, End, Malformed
 use Rattle.format.specs.Bytes.{words_at}
 use Rattle.format.specs.Bytes.Laws.{length_words}
 use Rattle.format.specs.Format.{singleton, merge, new_set, add, stops, verdict, show, close, why, Reading, found, ended, malformed, read_at, Record as Call}
-use Rattle.format.specs.Answers.{setCall, call_in, reading, Before, Placed}
+use Rattle.format.specs.Answers.{set_call, call_in, reading, Before, Placed}
 
 unfoldable atn_config : Config → AtnConfig
 atn_config x = record {
@@ -36,7 +36,7 @@ record_of e (show c) = Show (record { 0 = c })
 record_of e close = OnSet Close
 record_of e why = OnSet Why
 
-set_back : (e : ℕ) (r : SetRecord) → record_of e (setCall r) ≡ OnSet r
+set_back : (e : ℕ) (r : SetRecord) → record_of e (set_call r) ≡ OnSet r
 unfolding record_of atn_config
 set_back e (NewSet m) = refl
 set_back e (Add x) = refl

@@ -1,4 +1,6 @@
 // The format of a script: bytes are read as records.
+#![tactic(auto)]
+
 pub mod inner;
 mod payloads;
 mod records;

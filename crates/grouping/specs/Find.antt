@@ -4,7 +4,7 @@ use Rattle.std.proofs.Common.{sym, ap, ◌∙◌, arith}
 use Rattle.arena.specs.Store.{at, nowhere}
 use Rattle.encoding.specs.Decide.{same_words}
 use Rattle.sets.specs.Layout.{most_configs, config_at}
-use Rattle.sets.specs.Chains.{last, Going, going-begin, going-hit, going_on, going_end}
+use Rattle.sets.specs.Chains.{last, Going, going_begin, going_hit, going_on, going_end}
 use Rattle.setcheck.specs.Keys.{key_heads, key_links, key_bucket}
 use Rattle.grouping.specs.Alike.{traits_by, alike_of, alike_at, alike_true}
 use Rattle.grouping.specs.Led.{bucket_at, Led}
@@ -22,24 +22,24 @@ abbrev pub WalkingAlike : List ℕ → Alike → ℕ → ℕ → ℕ → Type 0
 WalkingAlike v k n b m = Going (bucket_at v k) (λ j. alike_at v k j n) b n m
 
 module _ {v : List ℕ} {k : Alike} {n : ℕ} {z : List ℕ} {b : ℕ} (s : SoughtAlike v k n z b) where
-  in-bucket : (j : ℕ) → alike_at v k j n ≡ true → bucket_at v k j ≡ b
-  in-bucket j e = ap key_bucket (alike_true k (config_at v j) (config_at v n) e) ∙ sym s.bucket
+  in_bucket : (j : ℕ) → alike_at v k j n ≡ true → bucket_at v k j ≡ b
+  in_bucket j e = ap key_bucket (alike_true k (config_at v j) (config_at v n) e) ∙ sym s.bucket
 
-  pub walk-begin : WalkingAlike v k n b (get_or z (key_heads + b) 0)
-  walk-begin = going-begin (bucket_at v k) (λ j. alike_at v k j n) b in-bucket key_heads key_links n z s.led.chains s.small
+  pub walk_begin : WalkingAlike v k n b (get_or z (key_heads + b) 0)
+  walk_begin = going_begin (bucket_at v k) (λ j. alike_at v k j n) b in_bucket key_heads key_links n z s.led.chains s.small
 
   pub walk_end : (m : ℕ) → m ≡ 0 → WalkingAlike v k n b m → last (λ j. alike_at v k j n) n ≡ nowhere
-  walk_end = going_end (bucket_at v k) (λ j. alike_at v k j n) b in-bucket key_heads key_links n z s.led.chains
+  walk_end = going_end (bucket_at v k) (λ j. alike_at v k j n) b in_bucket key_heads key_links n z s.led.chains
 
   module _ (m : ℕ) (d : m ≡ 0 → ⊥) (g : WalkingAlike v k n b m) where
     pub walk_here : m - 1 < most_configs
     walk_here = omega (arith, g.within, s.few)
 
-    pub walk-hit : alike_at v k (m - 1) n ≡ true → last (λ j. alike_at v k j n) n ≡ at (m - 1)
-    walk-hit = going-hit (bucket_at v k) (λ j. alike_at v k j n) b in-bucket key_heads key_links n z s.led.chains m d g
+    pub walk_hit : alike_at v k (m - 1) n ≡ true → last (λ j. alike_at v k j n) n ≡ at (m - 1)
+    walk_hit = going_hit (bucket_at v k) (λ j. alike_at v k j n) b in_bucket key_heads key_links n z s.led.chains m d g
 
-    pub walk-on : alike_at v k (m - 1) n ≡ false → WalkingAlike v k n b (get_or z (key_links + (m - 1)) 0) × (get_or z (key_links + (m - 1)) 0 < m)
-    walk-on = going_on (bucket_at v k) (λ j. alike_at v k j n) b in-bucket key_heads key_links n z s.led.chains m d g
+    pub walk_on : alike_at v k (m - 1) n ≡ false → WalkingAlike v k n b (get_or z (key_links + (m - 1)) 0) × (get_or z (key_links + (m - 1)) 0 < m)
+    walk_on = going_on (bucket_at v k) (λ j. alike_at v k j n) b in_bucket key_heads key_links n z s.led.chains m d g
 
 -- two configs compared by what was read of them
 pub compared : (v : List ℕ) (k : Alike) (i j : ℕ) (r : Bool) (x y : List ℕ)

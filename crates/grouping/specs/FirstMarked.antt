@@ -9,10 +9,10 @@ use Rattle.sets.specs.Config.{Config}
 use Rattle.sets.specs.Layout.{config_at, config_count}
 use Rattle.sets.specs.Lists.{any, all}
 use Rattle.sets.specs.Words.{configs_in}
-use Rattle.sets.specs.Listed.{any_at, at-any, all-at, at_all}
+use Rattle.sets.specs.Listed.{any_at, at_any, all_at, at_all}
 use Rattle.grouping.specs.Alike.{alike_of}
 use Rattle.grouping.specs.Led.{Led}
-use Rattle.grouping.specs.Marks.Laws.{mark-tells}
+use Rattle.grouping.specs.Marks.Laws.{mark_tells}
 use Rattle.grouping.specs.declared.inner.traits.Alike.{Alike}
 use Rattle.grouping.specs.declared.inner.marks.Picks.{Picks}
 use Rattle.setcheck.specs.declared.inner.keys.KeyPlace.{KeyPlace}
@@ -59,11 +59,11 @@ FirstPicked v k p b New = (j : ℕ) → j < config_count v → served v k p j �
 module _ {v : List ℕ} {k : Alike} {p : Picks} {z u : List ℕ} (x : Led v k (config_count v) z) (w : Marked v p (config_count v) z u) where
   told : (i : ℕ) → i < config_count v → marks u i ≡ served v k p i
   unfolding marks served
-  told i h = mark-tells x w i h
+  told i h = mark_tells x w i h
 
-  pub first-picked : (b : Bool) (r : KeyPlace) → FirstMarked (config_count v) u b r → FirstPicked v k p b r
-  first-picked b (At i) f = (f.0, sym (told i f.0) ∙ f.1, λ j l e. f.2 j l (told j (omega (arith, f.0)) ∙ e))
-  first-picked b New f = λ j l e. f j l (told j l ∙ e)
+  pub first_picked : (b : Bool) (r : KeyPlace) → FirstMarked (config_count v) u b r → FirstPicked v k p b r
+  first_picked b (At i) f = (f.0, sym (told i f.0) ∙ f.1, λ j l e. f.2 j l (told j (omega (arith, f.0)) ∙ e))
+  first_picked b New f = λ j l e. f j l (told j l ∙ e)
 
 -- every config is served, or the first that is not is found
 pub each_served : (v : List ℕ) (k : Alike) (p : Picks) → FirstPicked v k p false New → true ≡ each_picked k p (configs_in v (config_count v))
@@ -79,4 +79,4 @@ pub one_not_served : (v : List ℕ) (k : Alike) (p : Picks) (i : ℕ) → FirstP
 unfolding each_picked served
 one_not_served v k p i f =
     let t : Config → Bool = λ c. any (λ d. alike_of k c d && picks p c d) (configs_in v (config_count v)) in
-    sym (is_false (all t (configs_in v (config_count v))) (λ e. never_both (all-at t v (config_count v) e i f.0) f.1))
+    sym (is_false (all t (configs_in v (config_count v))) (λ e. never_both (all_at t v (config_count v) e i f.0) f.1))

@@ -4,7 +4,7 @@ use Rattle.std.proofs.Common.{sym, ◌∙◌, arith}
 use Rattle.cases.specs.Numbers.{three, two}
 use Rattle.arena.specs.Store.{at, nowhere}
 use Rattle.cases.specs.Bools.{bool?, never_both, is_false}
-use Rattle.sets.specs.Chains.{last, last-here, last-before, last_found, last_none}
+use Rattle.sets.specs.Chains.{last, last_here, last_before, last_found, last_none}
 
 -- being alike
 pub record Kin (t : ℕ → ℕ → Bool) : Type 0 where
@@ -35,8 +35,8 @@ last_after : (t : ℕ → Bool) (n b : ℕ) → last t n ≡ at b → (k : ℕ) 
 last_after t zero b e k h l = absurd (omega arith)
 last_after t (suc n) b e k h l =
     bool? (t n)
-    (λ d. let q : n ≡ b = found n b (sym (last-here t n d) ∙ e) in absurd (omega arith))
-    (λ d. two k n (λ q. rw q d) (λ q. last_after t n b (sym (last-before t n d) ∙ e) k h (omega arith)))
+    (λ d. let q : n ≡ b = found n b (sym (last_here t n d) ∙ e) in absurd (omega arith))
+    (λ d. two k n (λ q. rw q d) (λ q. last_after t n b (sym (last_before t n d) ∙ e) k h (omega arith)))
   where
     found : (a b : ℕ) → at a ≡ at b → a ≡ b
     found a b e = cc
@@ -61,11 +61,11 @@ module _ (t : ℕ → ℕ → Bool) (K : Kin t) where
       none_before : (i : ℕ) → i < n → t i n ≡ false
       none_before = last_none (λ j. t j n) n e
 
-      pub lead-new : FirstAlike t n n
-      lead-new = record { early = omega arith; same = K.self n; first = none_before }
+      pub lead_new : FirstAlike t n n
+      lead_new = record { early = omega arith; same = K.self n; first = none_before }
 
-      pub next-new : (i m : ℕ) → i < n → Next t n i m → Next t (suc n) i m
-      next-new i m h x = record {
+      pub next_new : (i m : ℕ) → i < n → Next t n i m → Next t (suc n) i m
+      next_new i m h x = record {
         none = λ q j a b. two j n (λ p. rw p (none_before i h)) (λ p. x.none q j a (omega arith));
         some = λ j q. let f = x.some j q in record { later = f.later; within = omega (arith, f.within); same = f.same; skips = f.skips };
       }
@@ -82,8 +82,8 @@ module _ (t : ℕ → ℕ → Bool) (K : Kin t) where
       after : (k : ℕ) → b < k → k < n → t k n ≡ false
       after = last_after (λ j. t j n) n b e
 
-      pub lead-old : (l : ℕ) → FirstAlike t b l → FirstAlike t n l
-      lead-old l x = record {
+      pub lead_old : (l : ℕ) → FirstAlike t b l → FirstAlike t n l
+      lead_old l x = record {
         early = omega (arith, x.early, before);
         same = K.next l b n x.same alike;
         first = λ j h. differs b n j alike (x.first j h);
@@ -102,8 +102,8 @@ module _ (t : ℕ → ℕ → Bool) (K : Kin t) where
             });
       }
 
-      pub next-other : (i m : ℕ) → i < n → (i ≡ b → ⊥) → Next t n i m → Next t (suc n) i m
-      next-other i m h d x = record {
+      pub next_other : (i m : ℕ) → i < n → (i ≡ b → ⊥) → Next t n i m → Next t (suc n) i m
+      next_other i m h d x = record {
         none = λ q j a l. two j n (λ p. rw p (last_one q)) (λ p. x.none q j a (omega arith));
         some = λ j q. let f = x.some j q in record { later = f.later; within = omega (arith, f.within); same = f.same; skips = f.skips };
       }
@@ -116,5 +116,5 @@ module _ (t : ℕ → ℕ → Bool) (K : Kin t) where
               (λ o. after i o h)
 
   -- it is the last so far
-  pub next-own : (n : ℕ) → Next t (suc n) n 0
-  next-own n = record { none = λ q j a l. absurd (omega arith); some = λ j q. absurd (omega arith) }
+  pub next_own : (n : ℕ) → Next t (suc n) n 0
+  next_own n = record { none = λ q j a l. absurd (omega arith); some = λ j q. absurd (omega arith) }

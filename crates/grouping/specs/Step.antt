@@ -2,22 +2,22 @@
 use Rattle.std.specs.Prelude.{◌≡◌, refl, List, ℕ, suc, ◌<◌, ◌≤◌, ◌+◌, length, get_or, set}
 use Rattle.std.proofs.Common.{sym, ap, ◌∙◌, arith, add-one}
 use Rattle.words.specs.Lent.{cleared_range}
-use Rattle.words.specs.Lent.Laws.{length-clearedRange, clearedRange-inside}
+use Rattle.words.specs.Lent.Laws.{length_cleared_range, cleared_range_inside}
 use Rattle.arena.specs.Store.{Found, at, nowhere}
 use Rattle.layout.specs.Layout.{scratch_words}
 use Rattle.sets.specs.Layout.{most_configs, config_at, config_count}
 use Rattle.sets.specs.Words.{configs_in}
 use Rattle.sets.specs.Listed.{configs_length}
-use Rattle.sets.specs.Chains.{last, linked, linked-length}
+use Rattle.sets.specs.Chains.{last, linked, linked_length}
 use Rattle.setcheck.specs.Keys.{key_heads, key_links, key_bucket, place_of}
 use Rattle.setcheck.specs.declared.inner.keys.KeyPlace.{KeyPlace}
 use Rattle.setcheck.specs.declared.inner.keys.KeyPlace.TheVariants.{At, New}
 use Rattle.groups.specs.Groups.{firsts}
-use Rattle.groups.specs.Parts.{firsts-most}
+use Rattle.groups.specs.Parts.{firsts_most}
 use Rattle.grouping.specs.Alike.{traits_by, alike_of, alike_at, alike_kind}
 use Rattle.grouping.specs.Leads.{before}
 use Rattle.grouping.specs.Led.{leaders_at, members_at, Lent, Led, followed}
-use Rattle.grouping.specs.Led.Laws.{kin, led_none, led-new, led-old, count-new, count-old}
+use Rattle.grouping.specs.Led.Laws.{kin, led_none, led_new, led_old, count_new, count_old}
 use Rattle.grouping.specs.Find.{SoughtAlike}
 use Rattle.grouping.specs.declared.inner.traits.Alike.{Alike}
 
@@ -39,20 +39,20 @@ Leading v k n u r =
     Led v k (suc n) u × (length (firsts (alike_of k) (configs_in v (suc n))) ≡ length (firsts (alike_of k) (configs_in v n)) + r)
 
 module _ {v : List ℕ} {k : Alike} {n : ℕ} {z : List ℕ} {b : ℕ} (s : SoughtAlike v k n z b) {y : List ℕ} (e : y ≡ linked key_heads key_links z n b) where
-  pub chained-length : length y ≡ scratch_words
-  chained-length =
-      ap length e ∙ linked-length key_heads key_links n b z (omega arith) (omega (arith, s.led.words.lent, s.few)) s.small ∙ s.led.words.lent
+  pub chained_length : length y ≡ scratch_words
+  chained_length =
+      ap length e ∙ linked_length key_heads key_links n b z (omega arith) (omega (arith, s.led.words.lent, s.few)) s.small ∙ s.led.words.lent
 
-  pub leads-first : last (λ j. alike_at v k j n) n ≡ nowhere → Leading v k n (set (set y (members_at + n) 0) (leaders_at + n) n) 1
-  leads-first f = rw e (led-new v k n z s.led s.few b s.bucket s.small f, count-new v k n f)
+  pub leads_first : last (λ j. alike_at v k j n) n ≡ nowhere → Leading v k n (set (set y (members_at + n) 0) (leaders_at + n) n) 1
+  leads_first f = rw e (led_new v k n z s.led s.few b s.bucket s.small f, count_new v k n f)
 
   module _ (m : ℕ) (f : last (λ j. alike_at v k j n) n ≡ at m) where
     pub earlier : m < n
     earlier = before (alike_at v k) (kin v k) n m f
 
-    pub leads-later : {u : List ℕ} → u ≡ followed (set y (members_at + n) 0) n m → Leading v k n u 0
+    pub leads_later : {u : List ℕ} → u ≡ followed (set y (members_at + n) 0) n m → Leading v k n u 0
     unfolding followed
-    leads-later d = rw (d, e) (led-old v k n z s.led s.few b s.bucket s.small m f, count-old v k n m f)
+    leads_later d = rw (d, e) (led_old v k n z s.led s.few b s.bucket s.small m f, count_old v k n m f)
 
 -- ---- the walk over all configs
 
@@ -66,21 +66,21 @@ pub gather_none : (v : List ℕ) (k : Alike) (z : List ℕ) → Lent v z → (u 
 unfolding firsts configs_in
 gather_none v k z w u e = record {
   within = omega arith;
-  led = led_none v k u (record { sized = w.sized; few = w.few; lent = ap length e ∙ length-clearedRange z key_heads key_links (omega arith) (omega (arith, w.lent)) ∙ w.lent })
-      (λ b s. ap (λ (l : List ℕ). get_or l (key_heads + b) 0) e ∙ clearedRange-inside z key_heads key_links (omega arith) (omega (arith, w.lent)) (key_heads + b) (omega arith) (omega arith));
+  led = led_none v k u (record { sized = w.sized; few = w.few; lent = ap length e ∙ length_cleared_range z key_heads key_links (omega arith) (omega (arith, w.lent)) ∙ w.lent })
+      (λ b s. ap (λ (l : List ℕ). get_or l (key_heads + b) 0) e ∙ cleared_range_inside z key_heads key_links (omega arith) (omega (arith, w.lent)) (key_heads + b) (omega arith) (omega arith));
   count = refl;
 }
 
 module _ {v : List ℕ} {k : Alike} {n : ℕ} {z : List ℕ} {c : ℕ} (g : FirstsSoFar v k n z c) (h : n < config_count v) where
-  pub gather-asks : Led v k n z × (n < most_configs)
-  gather-asks = (g.led, omega (arith, g.led.words.few))
+  pub gather_asks : Led v k n z × (n < most_configs)
+  gather_asks = (g.led, omega (arith, g.led.words.few))
 
   module _ (u : List ℕ) (r : ℕ) (x : Leading v k n u r) where
-    pub gather-next : FirstsSoFar v k (n + 1) u (c + r)
-    gather-next = rw (add-one n) (record { within = h; led = x.0; count = ap (λ (m : ℕ). m + r) g.count ∙ sym x.1 })
+    pub gather_next : FirstsSoFar v k (n + 1) u (c + r)
+    gather_next = rw (add-one n) (record { within = h; led = x.0; count = ap (λ (m : ℕ). m + r) g.count ∙ sym x.1 })
 
-    pub gather-fits : c + r ≤ most_configs
-    gather-fits = omega (arith, gather-next.count, firsts-most (alike_of k) (alike_kind k) (configs_in v (n + 1)), configs_length v (n + 1), g.led.words.few)
+    pub gather_fits : c + r ≤ most_configs
+    gather_fits = omega (arith, gather_next.count, firsts_most (alike_of k) (alike_kind k) (configs_in v (n + 1)), configs_length v (n + 1), g.led.words.few)
 
 pub gather_all : (v : List ℕ) (k : Alike) (n : ℕ) (z : List ℕ) (c : ℕ) → FirstsSoFar v k n z c → config_count v ≤ n
     → Led v k (config_count v) z × (c ≡ length (firsts (alike_of k) (configs_in v (config_count v))))
@@ -88,4 +88,4 @@ gather_all v k n z c g h = let e : config_count v ≡ n = omega (arith, g.within
 
 -- there are no more first ones than configs
 pub few_firsts : {v : List ℕ} {k : Alike} {n : ℕ} {z : List ℕ} → Led v k n z → {c : ℕ} → c ≡ length (firsts (alike_of k) (configs_in v n)) → n ≤ most_configs → c ≤ most_configs
-few_firsts {v} {k} {n} x e h = omega (arith, e, firsts-most (alike_of k) (alike_kind k) (configs_in v n), configs_length v n)
+few_firsts {v} {k} {n} x e h = omega (arith, e, firsts_most (alike_of k) (alike_kind k) (configs_in v n), configs_length v n)

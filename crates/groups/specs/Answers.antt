@@ -54,8 +54,8 @@ unfoldable pub stopped : List ℕ → List Config → Bool
 stopped stops cs = all (λ (c : Config). any (eqb c.state) stops) cs
 
 -- the state of c has just one alternative: every config in it has that of c
-unfoldable pub justOne : List Config → Config → Bool
-justOne cs c = all (λ (d : Config). eqb d.alternative c.alternative) (which (λ d. eqb d.state c.state) cs)
+unfoldable pub just_one : List Config → Config → Bool
+just_one cs c = all (λ (d : Config). eqb d.alternative c.alternative) (which (λ d. eqb d.state c.state) cs)
 
 unfoldable pub verdict : List ℕ → List Config → Bool
-verdict stops cs = stopped stops cs || (any many (groups cs) && not (any (justOne cs) cs))
+verdict stops cs = stopped stops cs || (any many (groups cs) && not (any (just_one cs) cs))

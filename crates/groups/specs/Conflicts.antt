@@ -6,13 +6,13 @@ use Rattle.cases.specs.Numbers.{two}
 use Rattle.sets.specs.Config.{Config}
 use Rattle.sets.specs.Lists.{any}
 use Rattle.groups.specs.Lists.{Any, All, In, Rising, which}
-use Rattle.groups.specs.Lists.Laws.{some-map, some_in, in_some, every_map, every_in, in-every, rising_unique, some-made, made_some, every_made, made_every}
-use Rattle.groups.specs.Lists.Tests.{any-exact, all-exact, which-some, some-which}
+use Rattle.groups.specs.Lists.Laws.{some_map, some_in, in_some, every_map, every_in, in_every, rising_unique, some_made, made_some, every_made, made_every}
+use Rattle.groups.specs.Lists.Tests.{any_exact, all_exact, which_some, some_which}
 use Rattle.groups.specs.Groups.{Group, rising, alts_of, together, firsts, subset, groups}
 use Rattle.groups.specs.Answers.{many, conflicting_alts, all_subsets_conflict}
 use Rattle.groups.specs.Sentences.{Many, ConflictUnion, Conflict}
 use Rattle.groups.specs.Rising.{rising_rises, in_rising, alts_rise, Passes, in_passing}
-use Rattle.groups.specs.Firsts.{together_kind, some-firsts, firsts-some, every-firsts, firsts-every}
+use Rattle.groups.specs.Firsts.{together_kind, some_firsts, firsts_some, every_firsts, firsts_every}
 use Rattle.groups.specs.Rules.{Beside, true_beside, subset_exact, subset_rises, subset_same}
 
 pub many_exact : (g : Group) → (many g ≡ true) ↔ Many g
@@ -47,9 +47,9 @@ conflicting_union cs =
     let xs = flat_map (λ (g : Group). g.alternatives) (which many gs) in
     record {
       exact = λ a. (
-        λ m. some-map _ _ gs (λ g p. ((many_exact g).0 p.0, p.1)) (which-some many _ gs ((in_flat a (which many gs)).0 ((in_rising a xs).0 m))),
-        λ m. (in_rising a xs).1 ((in_flat a (which many gs)).1 (some-which many (λ g. In a g.alternatives) gs
-            (some-map (λ g. Many g × In a g.alternatives) _ gs (λ g p. ((many_exact g).1 p.0, p.1)) m))),
+        λ m. some_map _ _ gs (λ g p. ((many_exact g).0 p.0, p.1)) (which_some many _ gs ((in_flat a (which many gs)).0 ((in_rising a xs).0 m))),
+        λ m. (in_rising a xs).1 ((in_flat a (which many gs)).1 (some_which many (λ g. In a g.alternatives) gs
+            (some_map (λ g. Many g × In a g.alternatives) _ gs (λ g p. ((many_exact g).1 p.0, p.1)) m))),
       );
       rising = rising_rises xs;
     }
@@ -90,8 +90,8 @@ pub many_rival : (cs : List Config) (c : Config) → Many (subset cs c) → Riva
 many_rival cs c h =
     let t = two_of (subset cs c).alternatives (subset_rises cs c) h in
     two t.0 c.alternative
-    (λ e. some-map _ _ cs (λ d o. (o.0, λ k. omega (arith, t.4, o.1))) ((subset_exact cs c t.1).0 t.3))
-    (λ n. some-map _ _ cs (λ d o. (o.0, λ k. n (sym o.1 ∙ k))) ((subset_exact cs c t.0).0 t.2))
+    (λ e. some_map _ _ cs (λ d o. (o.0, λ k. omega (arith, t.4, o.1))) ((subset_exact cs c t.1).0 t.3))
+    (λ n. some_map _ _ cs (λ d o. (o.0, λ k. n (sym o.1 ∙ k))) ((subset_exact cs c t.0).0 t.2))
 
 -- configs of one subset have one subset
 many_alike : (cs : List Config) (c d : Config) → together c d ≡ true → Many (subset cs d) → Many (subset cs c)
@@ -102,14 +102,14 @@ pub conflict_groups : (cs : List Config) → Any Many (groups cs) ↔ Conflict c
 unfolding groups
 conflict_groups cs =
     let P : Config → Type 0 = λ c. Many (subset cs c) in (
-      λ m. some-map P (Rival cs) cs (many_rival cs) (firsts-some together P cs (made_some (subset cs) Many (firsts together cs) m)),
-      λ m. some-made (subset cs) Many (firsts together cs)
-          (some-firsts together P cs (many_alike cs) (let s = some_in (Rival cs) cs m in in_some P cs s.0 s.1 (rival_many cs s.0 s.1 s.2))),
+      λ m. some_map P (Rival cs) cs (many_rival cs) (firsts_some together P cs (made_some (subset cs) Many (firsts together cs) m)),
+      λ m. some_made (subset cs) Many (firsts together cs)
+          (some_firsts together P cs (many_alike cs) (let s = some_in (Rival cs) cs m in in_some P cs s.0 s.1 (rival_many cs s.0 s.1 s.2))),
     )
 
 pub any_many : (cs : List Config) → (any many (groups cs) ≡ true) ↔ Conflict cs
 any_many cs =
-    let d = any-exact many Many (groups cs) many_exact in
+    let d = any_exact many Many (groups cs) many_exact in
     (λ e. (conflict_groups cs).0 (d.0 e), λ m. d.1 ((conflict_groups cs).1 m))
 
 -- ---- every subset has two or more
@@ -117,7 +117,7 @@ any_many cs =
 -- `all_subsets_conflict` says yes exactly if every subset has two or more alternatives
 pub conflict_exact : (cs : List Config) → (all_subsets_conflict cs ≡ true) ↔ All Many (groups cs)
 unfolding all_subsets_conflict
-conflict_exact cs = all-exact many Many (groups cs) many_exact
+conflict_exact cs = all_exact many Many (groups cs) many_exact
 
 -- of the configs: each has a rival
 pub conflict_configs : (cs : List Config) → (all_subsets_conflict cs ≡ true) ↔ All (Rival cs) cs
@@ -125,10 +125,10 @@ unfolding groups
 conflict_configs cs =
     let P : Config → Type 0 = λ c. Many (subset cs c) in (
       λ e. every_map P (Rival cs) cs (many_rival cs)
-          (firsts-every together together_kind P cs (λ c d h m. many_alike cs d c (together_kind.swap c d h) m)
+          (firsts_every together together_kind P cs (λ c d h m. many_alike cs d c (together_kind.swap c d h) m)
           (made_every (subset cs) Many (firsts together cs) ((conflict_exact cs).0 e))),
       λ v. (conflict_exact cs).1 (every_made (subset cs) Many (firsts together cs)
-          (every-firsts together P cs (in-every P cs (λ c m. rival_many cs c m (every_in (Rival cs) cs v c m))))),
+          (every_firsts together P cs (in_every P cs (λ c m. rival_many cs c m (every_in (Rival cs) cs v c m))))),
     )
 
 -- ---- the union, config by config
@@ -144,15 +144,15 @@ conflicting_configs cs =
       exact = λ a. (
         λ m.
             let s = some_in (Passes t a) cs ((in_passing t a cs).0 m) in
-            some-made (subset cs) (H a) (firsts together cs)
-            (some-firsts together (P a) cs (λ c d h p. (many_alike cs c d h p.0, subst (In a) (sym (subset_same cs c d h)) p.1))
+            some_made (subset cs) (H a) (firsts together cs)
+            (some_firsts together (P a) cs (λ c d h p. (many_alike cs c d h p.0, subst (In a) (sym (subset_same cs c d h)) p.1))
             (in_some (P a) cs s.0 s.1 (
               (many_exact (subset cs s.0)).0 s.2.0,
               (subset_exact cs s.0 a).1 (in_some (λ d. Beside s.0 d × (d.alternative ≡ a)) cs s.0 s.1 ((refl, refl), s.2.1)),
             ))),
         λ m.
             let s = some_in (P a) (firsts together cs) (made_some (subset cs) (H a) (firsts together cs) m) in
-            (in_passing t a cs).1 (some-map (λ d. Beside s.0 d × (d.alternative ≡ a)) (Passes t a) cs
+            (in_passing t a cs).1 (some_map (λ d. Beside s.0 d × (d.alternative ≡ a)) (Passes t a) cs
             (λ d o. ((many_exact (subset cs d)).1 (many_alike cs d s.0 (together_kind.swap s.0 d (true_beside s.0 d o.0)) s.2.0), o.1))
             ((subset_exact cs s.0 a).0 s.2.1)),
       );

@@ -11,15 +11,15 @@ use Rattle.cases.specs.Numbers.{three}
 use Rattle.sets.specs.Config.{Config}
 use Rattle.cases.specs.Bools.{never_both, is_false, bool_iff, both_true}
 use Rattle.groups.specs.Lists.{Any, All, In, Pairwise, Rising, which}
-use Rattle.groups.specs.Lists.Laws.{some-map, some_in, in_some, every_map, every_in, in-every, every_of, pairwise-made, rising_unique}
-use Rattle.groups.specs.Lists.Tests.{and_true, pairwise-which}
+use Rattle.groups.specs.Lists.Laws.{some_map, some_in, in_some, every_map, every_in, in_every, every_of, pairwise_made, rising_unique}
+use Rattle.groups.specs.Lists.Tests.{and_true, pairwise_which}
 use Rattle.groups.specs.Groups.{Group, insert, rising, alts_of, together, firsts, subset, groups}
 use Rattle.groups.specs.Answers.{all_subsets_equal}
 use Rattle.groups.specs.Rising.{by_insert, in_rising, alts_rise, in_alts, Passes, in_passing}
-use Rattle.groups.specs.Firsts.{Likeness, together_kind, other, some-firsts, firsts-some, firsts-once}
+use Rattle.groups.specs.Firsts.{Likeness, together_kind, other, some_firsts, firsts_some, firsts_once}
 use Rattle.groups.specs.Rules.{subsets}
-use Rattle.groups.specs.Equal.{equal-exact}
-use Rattle.groups.specs.Parts.{which-weaker, firsts-other, sum, sum_same, parts}
+use Rattle.groups.specs.Equal.{equal_exact}
+use Rattle.groups.specs.Parts.{which_weaker, firsts_other, sum, sum_same, parts}
 use Rattle.groups.specs.Room.{total, total_sum}
 
 -- ---- three ways of being alike
@@ -84,7 +84,7 @@ alts_all : (cs : List Config) → Pairwise (λ c d. one_alt c d ≡ false) cs �
 unfolding alts_of
 alts_all cs v =
     let alt : Config → ℕ = λ c. c.alternative in
-    rising_all (map alt cs) (pairwise-made alt (λ x y. x ≡ y → ⊥) cs (apart cs v)) ∙ length-map cs alt
+    rising_all (map alt cs) (pairwise_made alt (λ x y. x ≡ y → ⊥) cs (apart cs v)) ∙ length-map cs alt
   where
     apart : (ds : List Config) → Pairwise (λ c d. one_alt c d ≡ false) ds → Pairwise (λ c d. c.alternative ≡ d.alternative → ⊥) ds
     apart [] w = tt
@@ -95,27 +95,27 @@ alts_all cs v =
 -- The alternatives of the set are as many as the first configs of each.
 pub count_alts : (cs : List Config) → length (firsts one_alt cs) ≡ length (alts_of cs)
 count_alts cs =
-    sym (alts_all (firsts one_alt cs) (firsts-once one_alt cs))
+    sym (alts_all (firsts one_alt cs) (firsts_once one_alt cs))
     ∙ ap length (rising_unique (alts_of (firsts one_alt cs)) (alts_of cs) (alts_rise (firsts one_alt cs)) (alts_rise cs)
-    (λ a m. (in_alts a cs).1 (firsts-some one_alt (λ c. c.alternative ≡ a) cs ((in_alts a (firsts one_alt cs)).0 m)))
-    (λ a m. (in_alts a (firsts one_alt cs)).1 (some-firsts one_alt (λ c. c.alternative ≡ a) cs (λ c d h e. alt_true c d h ∙ e) ((in_alts a cs).0 m))))
+    (λ a m. (in_alts a cs).1 (firsts_some one_alt (λ c. c.alternative ≡ a) cs ((in_alts a (firsts one_alt cs)).0 m)))
+    (λ a m. (in_alts a (firsts one_alt cs)).1 (some_firsts one_alt (λ c. c.alternative ≡ a) cs (λ c d h e. alt_true c d h ∙ e) ((in_alts a cs).0 m))))
 
 module _ (cs : List Config) where
   ts : List Config
   ts = firsts one_triple cs
 
   -- the alternatives of a subset are as many as the first configs of each triple in it
-  count-subset : (c : Config) → length (which (together c) ts) ≡ length (alts_of (which (together c) cs))
+  count_subset : (c : Config) → length (which (together c) ts) ≡ length (alts_of (which (together c) cs))
   unfolding ts
-  count-subset c =
+  count_subset c =
       let P : ℕ → Config → Type 0 = Passes (together c) in
       sym (alts_all (which (together c) ts)
-      (pairwise-which (together c) (λ d e. one_triple d e ≡ false) (λ d e. one_alt d e ≡ false) ts
+      (pairwise_which (together c) (λ d e. one_triple d e ≡ false) (λ d e. one_alt d e ≡ false) ts
       (λ d e p q n. is_false (one_alt d e) (λ a. never_both (true_triple d e (together_kind.next d c e (together_kind.swap c d p) q) a) n))
-      (firsts-once one_triple cs)))
+      (firsts_once one_triple cs)))
       ∙ ap length (rising_unique (alts_of (which (together c) ts)) (alts_of (which (together c) cs)) (alts_rise (which (together c) ts)) (alts_rise (which (together c) cs))
-      (λ a m. (in_passing (together c) a cs).1 (firsts-some one_triple (P a) cs ((in_passing (together c) a ts).0 m)))
-      (λ a m. (in_passing (together c) a ts).1 (some-firsts one_triple (P a) cs
+      (λ a m. (in_passing (together c) a cs).1 (firsts_some one_triple (P a) cs ((in_passing (together c) a ts).0 m)))
+      (λ a m. (in_passing (together c) a ts).1 (some_firsts one_triple (P a) cs
       (λ d e h p. let q = triple_true d e h in (together_kind.next c e d p.0 (together_kind.swap d e q.0), alt_true d e q.1 ∙ p.1))
       ((in_passing (together c) a cs).0 m))))
 
@@ -126,10 +126,10 @@ firsts_triples [] = refl
 firsts_triples (c ∷ cs) =
     let fs = firsts one_triple cs in
     ap (λ (l : List Config). c ∷ l)
-    (sym (firsts-other together together_kind c (which (other one_triple c) fs))
-    ∙ ap (firsts together) (which-weaker (other together c) (other one_triple c)
+    (sym (firsts_other together together_kind c (which (other one_triple c) fs))
+    ∙ ap (firsts together) (which_weaker (other together c) (other one_triple c)
     (λ d e. rw (is_false (one_triple c d) (λ q. never_both (triple_true c d q).0 (not-true (together c d) e)))) fs)
-    ∙ firsts-other together together_kind c fs
+    ∙ firsts_other together together_kind c fs
     ∙ ap (which (other together c)) (firsts_triples cs))
 
 -- The triples are as many as the alternatives of all subsets together.
@@ -139,7 +139,7 @@ count_triples cs =
     sym (parts together together_kind (firsts one_triple cs))
     ∙ ap (sum (λ c. length (which (together c) (firsts one_triple cs)))) (firsts_triples cs)
     ∙ sum_same (λ c. length (which (together c) (firsts one_triple cs))) (λ c. length (alts_of (which (together c) cs))) (firsts together cs)
-    (every_of _ (firsts together cs) (count-subset cs))
+    (every_of _ (firsts together cs) (count_subset cs))
     ∙ sym (total_sum cs (firsts together cs))
 
 -- ---- equal by counting
@@ -167,10 +167,10 @@ module _ (cs : List Config) where
 
   -- a group has none but alternatives of the set
   in_all : (g : Group) → In g (groups cs) → (a : ℕ) → In a g.alternatives → In a (alts_of cs)
-  in_all g m a n = (in_alts a cs).1 (some-map _ _ cs (λ c o. o.1) ((every_in _ (groups cs) (subsets cs).exact g m a).0 n))
+  in_all g m a n = (in_alts a cs).1 (some_map _ _ cs (λ c o. o.1) ((every_in _ (groups cs) (subsets cs).exact g m a).0 n))
 
-  among-all : (g : Group) → In g (groups cs) → (length g.alternatives ≤ length (alts_of cs)) × (length g.alternatives ≡ length (alts_of cs) → Whole g)
-  among-all g m = among g.alternatives (alts_of cs) (every_in _ (groups cs) (subsets cs).rising g m) (alts_rise cs) (in_all g m)
+  among_all : (g : Group) → In g (groups cs) → (length g.alternatives ≤ length (alts_of cs)) × (length g.alternatives ≡ length (alts_of cs) → Whole g)
+  among_all g m = among g.alternatives (alts_of cs) (every_in _ (groups cs) (subsets cs).rising g m) (alts_rise cs) (in_all g m)
 
   -- an alternative of the set is in some group
   all_in : (a : ℕ) → In a (alts_of cs) → Any (λ g. In a g.alternatives) (groups cs)
@@ -181,14 +181,14 @@ module _ (cs : List Config) where
       in_some (λ h. In a h.alternatives) (groups cs) g.0 g.1
       ((every_in _ (groups cs) (subsets cs).exact g.0 g.1 a).1 (in_some _ cs c s.1 ((sym g.2.0, sym g.2.1), s.2)))
 
-  equal-whole : (all_subsets_equal cs ≡ true) ↔ All Whole (groups cs)
-  equal-whole =
+  equal_whole : (all_subsets_equal cs ≡ true) ↔ All Whole (groups cs)
+  equal_whole =
       let gs = groups cs in (
-        λ e. in-every Whole gs λ g m.
+        λ e. in_every Whole gs λ g m.
             rising_unique g.alternatives (alts_of cs) (every_in _ gs (subsets cs).rising g m) (alts_rise cs) (in_all g m)
             (λ a n. let s = some_in (λ h. In a h.alternatives) gs (all_in a n) in
-            subst (In a) (sym (every_in _ gs (every_in _ gs ((equal-exact cs).0 e) g m) s.0 s.1)) s.2),
-        λ v. (equal-exact cs).1 (every_map Whole _ gs (λ g e. every_map Whole (λ h. g.alternatives ≡ h.alternatives) gs (λ h d. e ∙ sym d) v) v),
+            subst (In a) (sym (every_in _ gs (every_in _ gs ((equal_exact cs).0 e) g m) s.0 s.1)) s.2),
+        λ v. (equal_exact cs).1 (every_map Whole _ gs (λ g e. every_map Whole (λ h. g.alternatives ≡ h.alternatives) gs (λ h d. e ∙ sym d) v) v),
       )
 
 -- groups of at most n alternatives have n each exactly if they have as many as can be
@@ -210,11 +210,11 @@ equal_count cs =
     let gs = groups cs in
     let n = length (alts_of cs) in
     let size : length gs ≡ length (firsts together cs) = length-map (firsts together cs) (subset cs) in
-    let few = in-every (λ g. length g.alternatives ≤ n) gs (λ g m. (among-all cs g m).0) in
+    let few = in_every (λ g. length g.alternatives ≤ n) gs (λ g m. (among_all cs g m).0) in
     let same : (total gs ≡ length gs * n) ↔ (length (firsts one_triple cs) ≡ length (firsts together cs) * length (firsts one_alt cs)) = (
       λ e. count_triples cs ∙ e ∙ ap₂ ◌*◌ size (sym (count_alts cs)),
       λ e. sym (count_triples cs) ∙ e ∙ ap₂ ◌*◌ (sym size) (count_alts cs),
     ) in
     bool_iff (all_subsets_equal cs) (eqb (length (firsts one_triple cs)) (length (firsts together cs) * length (firsts one_alt cs)))
-    (λ e. eq-eqb _ _ (same.0 (full_total n gs (every_map (Whole cs) _ gs (λ g d. ap length d) ((equal-whole cs).0 e)))))
-    (λ e. (equal-whole cs).1 (in-every (Whole cs) gs (λ g m. (among-all cs g m).1 (every_in _ gs ((total_full n gs few).1 (same.1 (eqb-true _ _ e))) g m))))
+    (λ e. eq-eqb _ _ (same.0 (full_total n gs (every_map (Whole cs) _ gs (λ g d. ap length d) ((equal_whole cs).0 e)))))
+    (λ e. (equal_whole cs).1 (in_every (Whole cs) gs (λ g m. (among_all cs g m).1 (every_in _ gs ((total_full n gs few).1 (same.1 (eqb-true _ _ e))) g m))))

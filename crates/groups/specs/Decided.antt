@@ -8,9 +8,9 @@ use Rattle.sets.specs.Lists.{any, all}
 use Rattle.cases.specs.Bools.{never_both, is_false, both_true, or_right}
 use Rattle.groups.specs.Lists.{In, which}
 use Rattle.groups.specs.Lists.Laws.{every_map}
-use Rattle.groups.specs.Lists.Tests.{and_true, or_true, true_or_left, any-exact, all-exact, every-passes}
+use Rattle.groups.specs.Lists.Tests.{and_true, or_true, true_or_left, any_exact, all_exact, every_passes}
 use Rattle.groups.specs.Groups.{firsts, groups, rising}
-use Rattle.groups.specs.Answers.{none, many, conflicting_alts, all_subsets_conflict, all_subsets_equal, agree, single_viable_alt, unique_alt, stopped, justOne, verdict}
+use Rattle.groups.specs.Answers.{none, many, conflicting_alts, all_subsets_conflict, all_subsets_equal, agree, single_viable_alt, unique_alt, stopped, just_one, verdict}
 use Rattle.groups.specs.Sentences.{Stopped, JustOne, VerdictYes}
 use Rattle.groups.specs.Conflicts.{any_many}
 use Rattle.groups.specs.Equal.{in_exact}
@@ -18,15 +18,15 @@ use Rattle.groups.specs.Equal.{in_exact}
 -- "every config is in a listed stop state"
 pub stopped_exact : (stops : List ℕ) (cs : List Config) → (stopped stops cs ≡ true) ↔ Stopped stops cs
 unfolding stopped
-stopped_exact stops cs = all-exact (λ (c : Config). any (eqb c.state) stops) (λ c. In c.state stops) cs (λ c. in_exact c.state stops)
+stopped_exact stops cs = all_exact (λ (c : Config). any (eqb c.state) stops) (λ c. In c.state stops) cs (λ c. in_exact c.state stops)
 
 -- "no state has just one"
-pub just_exact : (cs : List Config) (c : Config) → (justOne cs c ≡ true) ↔ JustOne cs c
-unfolding justOne
+pub just_exact : (cs : List Config) (c : Config) → (just_one cs c ≡ true) ↔ JustOne cs c
+unfolding just_one
 just_exact cs c =
     let here : Config → Bool = λ d. eqb d.state c.state in
-    let d = all-exact _ (λ d. d.alternative ≡ c.alternative) (which here cs) (λ d. (eqb-true d.alternative c.alternative, eq-eqb d.alternative c.alternative)) in
-    let p = every-passes here (λ d. d.alternative ≡ c.alternative) cs in (
+    let d = all_exact _ (λ d. d.alternative ≡ c.alternative) (which here cs) (λ d. (eqb-true d.alternative c.alternative, eq-eqb d.alternative c.alternative)) in
+    let p = every_passes here (λ d. d.alternative ≡ c.alternative) cs in (
       λ e. every_map _ _ cs (λ d f s. f (eq-eqb d.state c.state s)) (p.0 (d.0 e)),
       λ v. d.1 (p.1 (every_map _ _ cs (λ d f s. f (eqb-true d.state c.state s)) v)),
     )
@@ -39,8 +39,8 @@ pub verdict_exact : (stops : List ℕ) (cs : List Config) → (verdict stops cs 
 unfolding verdict
 verdict_exact stops cs =
     let m = any many (groups cs) in
-    let j = any (justOne cs) cs in
-    let just = any-exact (justOne cs) (JustOne cs) cs (just_exact cs) in (
+    let j = any (just_one cs) cs in
+    let just = any_exact (just_one cs) (JustOne cs) cs (just_exact cs) in (
       λ e. ⊎_elim
           (λ h. inl ((stopped_exact stops cs).0 h))
           (λ h. let p = and_true m (not j) h in inr ((any_many cs).0 p.0, λ s. never_both (just.1 s) (not-true j p.1)))

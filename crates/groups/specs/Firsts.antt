@@ -8,8 +8,8 @@ use borrow.Author.Tests.{eqb-true, eq-eqb, not_true}
 use Rattle.sets.specs.Config.{Config}
 use Rattle.cases.specs.Bools.{bool?, never_both, bool_iff, both_true}
 use Rattle.groups.specs.Lists.{Any, All, Pairwise, Before, which}
-use Rattle.groups.specs.Lists.Laws.{some-map, some_in, in_some, every_map, every_in, in-every, every_of}
-use Rattle.groups.specs.Lists.Tests.{and_true, every-which, pairwise-which, which-pass, which-some, some-which}
+use Rattle.groups.specs.Lists.Laws.{some_map, some_in, in_some, every_map, every_in, in_every, every_of}
+use Rattle.groups.specs.Lists.Tests.{and_true, every_which, pairwise_which, which_pass, which_some, some_which}
 use Rattle.groups.specs.Groups.{together, firsts}
 
 -- ---- being alike
@@ -44,43 +44,43 @@ module _ (alike : Config → Config → Bool) where
   other c d = not (alike c d)
 
   -- they are among all
-  pub every-firsts : (P : Config → Type 0) (cs : List Config) → All P cs → All P (firsts alike cs)
+  pub every_firsts : (P : Config → Type 0) (cs : List Config) → All P cs → All P (firsts alike cs)
   unfolding firsts
-  every-firsts P [] v = tt
-  every-firsts P (c ∷ cs) v = (v.0, every-which (other c) P P (firsts alike cs) (λ x e p. p) (every-firsts P cs v.1))
+  every_firsts P [] v = tt
+  every_firsts P (c ∷ cs) v = (v.0, every_which (other c) P P (firsts alike cs) (λ x e p. p) (every_firsts P cs v.1))
 
-  pub firsts-some : (P : Config → Type 0) (cs : List Config) → Any P (firsts alike cs) → Any P cs
+  pub firsts_some : (P : Config → Type 0) (cs : List Config) → Any P (firsts alike cs) → Any P cs
   unfolding firsts
-  firsts-some P [] m = m
-  firsts-some P (c ∷ cs) m =
-      ⊎_elim inl (λ n. inr (firsts-some P cs (some-map _ P (firsts alike cs) (λ x p. p.1) (which-some (other c) P (firsts alike cs) n)))) m
+  firsts_some P [] m = m
+  firsts_some P (c ∷ cs) m =
+      ⊎_elim inl (λ n. inr (firsts_some P cs (some_map _ P (firsts alike cs) (λ x p. p.1) (which_some (other c) P (firsts alike cs) n)))) m
 
   -- what holds of a config holds of the first that is alike
-  pub some-firsts : (P : Config → Type 0) (cs : List Config) → ((c d : Config) → alike c d ≡ true → P d → P c) → Any P cs → Any P (firsts alike cs)
+  pub some_firsts : (P : Config → Type 0) (cs : List Config) → ((c d : Config) → alike c d ≡ true → P d → P c) → Any P cs → Any P (firsts alike cs)
   unfolding firsts
-  some-firsts P (c ∷ cs) f (inl p) = inl p
-  some-firsts P (c ∷ cs) f (inr m) =
-      let s = some_in P (firsts alike cs) (some-firsts P cs f m) in
+  some_firsts P (c ∷ cs) f (inl p) = inl p
+  some_firsts P (c ∷ cs) f (inr m) =
+      let s = some_in P (firsts alike cs) (some_firsts P cs f m) in
       bool? (alike c s.0)
       (λ e. inl (f c s.0 e s.2))
-      (λ e. inr (some-which (other c) P (firsts alike cs) (in_some (λ x. (other c x ≡ true) × P x) (firsts alike cs) s.0 s.1 (rw e, s.2))))
+      (λ e. inr (some_which (other c) P (firsts alike cs) (in_some (λ x. (other c x ≡ true) × P x) (firsts alike cs) s.0 s.1 (rw e, s.2))))
 
   -- no two are alike
-  pub firsts-once : (cs : List Config) → Pairwise (λ c d. alike c d ≡ false) (firsts alike cs)
+  pub firsts_once : (cs : List Config) → Pairwise (λ c d. alike c d ≡ false) (firsts alike cs)
   unfolding firsts
-  firsts-once [] = tt
-  firsts-once (c ∷ cs) = (
-    every_map (λ d. other c d ≡ true) (λ d. alike c d ≡ false) (which (other c) (firsts alike cs)) (λ d e. not_true (alike c d) e) (which-pass (other c) (firsts alike cs)),
-    pairwise-which (other c) (λ d e. alike d e ≡ false) (λ d e. alike d e ≡ false) (firsts alike cs) (λ d e p q h. h) (firsts-once cs),
+  firsts_once [] = tt
+  firsts_once (c ∷ cs) = (
+    every_map (λ d. other c d ≡ true) (λ d. alike c d ≡ false) (which (other c) (firsts alike cs)) (λ d e. not_true (alike c d) e) (which_pass (other c) (firsts alike cs)),
+    pairwise_which (other c) (λ d e. alike d e ≡ false) (λ d e. alike d e ≡ false) (firsts alike cs) (λ d e p q h. h) (firsts_once cs),
   )
 
   module _ (K : Likeness alike) where
     -- what holds of the first holds of those that are alike
-    pub firsts-every : (P : Config → Type 0) (cs : List Config) → ((c d : Config) → alike c d ≡ true → P c → P d) → All P (firsts alike cs) → All P cs
-    firsts-every P cs f v =
-        in-every P cs λ c m.
+    pub firsts_every : (P : Config → Type 0) (cs : List Config) → ((c d : Config) → alike c d ≡ true → P c → P d) → All P (firsts alike cs) → All P cs
+    firsts_every P cs f v =
+        in_every P cs λ c m.
         let Same : Config → Type 0 = λ d. alike d c ≡ true in
-        let s = some_in Same (firsts alike cs) (some-firsts Same cs (λ d e h k. K.next d e c h k) (in_some Same cs c m (K.self c))) in
+        let s = some_in Same (firsts alike cs) (some_firsts Same cs (λ d e h k. K.next d e c h k) (in_some Same cs c m (K.self c))) in
         f s.0 c s.2 (every_in P (firsts alike cs) v s.0 s.1)
 
     -- those alike to two that are alike are the same
@@ -91,11 +91,11 @@ module _ (alike : Config → Config → Bool) where
     Ahead cs c d = Before (λ e. alike c e ≡ true) (λ e. alike d e ≡ true) cs
 
     -- they stand in order
-    pub firsts-order : (cs : List Config) → Pairwise (Ahead cs) (firsts alike cs)
+    pub firsts_order : (cs : List Config) → Pairwise (Ahead cs) (firsts alike cs)
     unfolding firsts
-    firsts-order [] = tt
-    firsts-order (c ∷ cs) = (
+    firsts_order [] = tt
+    firsts_order (c ∷ cs) = (
       every_of (Ahead (c ∷ cs) c) (which (other c) (firsts alike cs)) (λ d. inl (K.self c)),
-      pairwise-which (other c) (Ahead cs) (Ahead (c ∷ cs)) (firsts alike cs)
-          (λ d e p q h. inr (λ k. never_both (K.swap e c k) (not_true (alike c e) q), h)) (firsts-order cs),
+      pairwise_which (other c) (Ahead cs) (Ahead (c ∷ cs)) (firsts alike cs)
+          (λ d e p q h. inr (λ k. never_both (K.swap e c k) (not_true (alike c e) q), h)) (firsts_order cs),
     )

@@ -12,7 +12,7 @@ use Rattle.sets.specs.Config.{Config}
 use Rattle.cases.specs.Bools.{bool?, never_both, is_false}
 use Rattle.groups.specs.Lists.{All, which}
 use Rattle.groups.specs.Lists.Laws.{every_map}
-use Rattle.groups.specs.Lists.Tests.{which-yes, which-no, which-pass}
+use Rattle.groups.specs.Lists.Tests.{which_yes, which_no, which_pass}
 use Rattle.groups.specs.Groups.{firsts}
 use Rattle.groups.specs.Firsts.{Likeness, other, same_kind}
 
@@ -20,57 +20,57 @@ use Rattle.groups.specs.Firsts.{Likeness, other, same_kind}
 
 module _ {A : Type 0} where
   -- the first test changes nothing where the second would drop the same and more
-  pub which-weaker : (t u : A → Bool) → ((x : A) → t x ≡ true → u x ≡ true) → (xs : List A) → which t (which u xs) ≡ which t xs
+  pub which_weaker : (t u : A → Bool) → ((x : A) → t x ≡ true → u x ≡ true) → (xs : List A) → which t (which u xs) ≡ which t xs
   unfolding which
-  which-weaker t u f [] = refl
-  which-weaker t u f (x ∷ xs) =
+  which_weaker t u f [] = refl
+  which_weaker t u f (x ∷ xs) =
       bool? (u x)
-      (λ e. ap (which t) (which-yes u x xs e) ∙ bool? (t x)
-      (λ d. which-yes t x (which u xs) d ∙ ap (λ (l : List A). x ∷ l) (which-weaker t u f xs) ∙ sym (which-yes t x xs d))
-      (λ d. which-no t x (which u xs) d ∙ which-weaker t u f xs ∙ sym (which-no t x xs d)))
-      (λ e. ap (which t) (which-no u x xs e) ∙ which-weaker t u f xs ∙ sym (which-no t x xs (is_false (t x) (λ d. never_both (f x d) e))))
+      (λ e. ap (which t) (which_yes u x xs e) ∙ bool? (t x)
+      (λ d. which_yes t x (which u xs) d ∙ ap (λ (l : List A). x ∷ l) (which_weaker t u f xs) ∙ sym (which_yes t x xs d))
+      (λ d. which_no t x (which u xs) d ∙ which_weaker t u f xs ∙ sym (which_no t x xs d)))
+      (λ e. ap (which t) (which_no u x xs e) ∙ which_weaker t u f xs ∙ sym (which_no t x xs (is_false (t x) (λ d. never_both (f x d) e))))
 
-  pub which-swap : (t u : A → Bool) (xs : List A) → which t (which u xs) ≡ which u (which t xs)
+  pub which_swap : (t u : A → Bool) (xs : List A) → which t (which u xs) ≡ which u (which t xs)
   unfolding which
-  which-swap t u [] = refl
-  which-swap t u (x ∷ xs) =
+  which_swap t u [] = refl
+  which_swap t u (x ∷ xs) =
       bool? (t x)
       (λ e. bool? (u x)
-      (λ f. ap (which t) (which-yes u x xs f) ∙ which-yes t x (which u xs) e ∙ ap (λ (l : List A). x ∷ l) (which-swap t u xs)
-      ∙ sym (which-yes u x (which t xs) f) ∙ ap (which u) (sym (which-yes t x xs e)))
-      (λ f. ap (which t) (which-no u x xs f) ∙ which-swap t u xs ∙ sym (which-no u x (which t xs) f) ∙ ap (which u) (sym (which-yes t x xs e))))
+      (λ f. ap (which t) (which_yes u x xs f) ∙ which_yes t x (which u xs) e ∙ ap (λ (l : List A). x ∷ l) (which_swap t u xs)
+      ∙ sym (which_yes u x (which t xs) f) ∙ ap (which u) (sym (which_yes t x xs e)))
+      (λ f. ap (which t) (which_no u x xs f) ∙ which_swap t u xs ∙ sym (which_no u x (which t xs) f) ∙ ap (which u) (sym (which_yes t x xs e))))
       (λ e. bool? (u x)
-      (λ f. ap (which t) (which-yes u x xs f) ∙ which-no t x (which u xs) e ∙ which-swap t u xs ∙ ap (which u) (sym (which-no t x xs e)))
-      (λ f. ap (which t) (which-no u x xs f) ∙ which-swap t u xs ∙ ap (which u) (sym (which-no t x xs e))))
+      (λ f. ap (which t) (which_yes u x xs f) ∙ which_no t x (which u xs) e ∙ which_swap t u xs ∙ ap (which u) (sym (which_no t x xs e)))
+      (λ f. ap (which t) (which_no u x xs f) ∙ which_swap t u xs ∙ ap (which u) (sym (which_no t x xs e))))
 
   -- those that pass, and those that do not, are all
-  pub which-both : (t : A → Bool) (xs : List A) → length (which t xs) + length (which (λ x. not (t x)) xs) ≡ length xs
+  pub which_both : (t : A → Bool) (xs : List A) → length (which t xs) + length (which (λ x. not (t x)) xs) ≡ length xs
   unfolding which
-  which-both t [] = refl
-  which-both t (x ∷ xs) =
-      let ih = which-both t xs in
+  which_both t [] = refl
+  which_both t (x ∷ xs) =
+      let ih = which_both t xs in
       bool? (t x)
-      (λ e. let a = ap length (which-yes t x xs e) in let b = ap length (which-no (λ x. not (t x)) x xs (rw e)) in omega (arith, ih, a, b))
-      (λ e. let a = ap length (which-no t x xs e) in let b = ap length (which-yes (λ x. not (t x)) x xs (rw e)) in omega (arith, ih, a, b))
+      (λ e. let a = ap length (which_yes t x xs e) in let b = ap length (which_no (λ x. not (t x)) x xs (rw e)) in omega (arith, ih, a, b))
+      (λ e. let a = ap length (which_no t x xs e) in let b = ap length (which_yes (λ x. not (t x)) x xs (rw e)) in omega (arith, ih, a, b))
 
 -- ---- without those of one kind
 
 module _ (alike : Config → Config → Bool) (K : Likeness alike) where
-  pub firsts-other : (c : Config) (cs : List Config) → firsts alike (which (other alike c) cs) ≡ which (other alike c) (firsts alike cs)
+  pub firsts_other : (c : Config) (cs : List Config) → firsts alike (which (other alike c) cs) ≡ which (other alike c) (firsts alike cs)
   unfolding firsts which
-  firsts-other c [] = refl
-  firsts-other c (d ∷ cs) =
+  firsts_other c [] = refl
+  firsts_other c (d ∷ cs) =
       let fs = firsts alike cs in
       bool? (alike c d)
       (λ e.
-      ap (firsts alike) (which-no (other alike c) d cs (rw e)) ∙ firsts-other c cs
-      ∙ sym (which-weaker (other alike c) (other alike d) (λ x h. rw (same_kind alike K c d e) at h) fs)
-      ∙ sym (which-no (other alike c) d (which (other alike d) fs) (rw e)))
+      ap (firsts alike) (which_no (other alike c) d cs (rw e)) ∙ firsts_other c cs
+      ∙ sym (which_weaker (other alike c) (other alike d) (λ x h. rw (same_kind alike K c d e) at h) fs)
+      ∙ sym (which_no (other alike c) d (which (other alike d) fs) (rw e)))
       (λ e.
-      ap (firsts alike) (which-yes (other alike c) d cs (rw e))
-      ∙ ap (λ (l : List Config). d ∷ which (other alike d) l) (firsts-other c cs)
-      ∙ ap (λ (l : List Config). d ∷ l) (which-swap (other alike d) (other alike c) fs)
-      ∙ sym (which-yes (other alike c) d (which (other alike d) fs) (rw e)))
+      ap (firsts alike) (which_yes (other alike c) d cs (rw e))
+      ∙ ap (λ (l : List Config). d ∷ which (other alike d) l) (firsts_other c cs)
+      ∙ ap (λ (l : List Config). d ∷ l) (which_swap (other alike d) (other alike c) fs)
+      ∙ sym (which_yes (other alike c) d (which (other alike d) fs) (rw e)))
 
 -- ---- sums
 
@@ -91,32 +91,32 @@ sum_less f g (c ∷ cs) h = omega (arith, h c, sum_less f g cs h)
 -- ---- The configs of each kind, summed up, are all.
 
 module _ (alike : Config → Config → Bool) (K : Likeness alike) where
-  parts-of : (n : ℕ) (cs : List Config) → length cs ≤ n → sum (λ c. length (which (alike c) cs)) (firsts alike cs) ≡ length cs
+  parts_of : (n : ℕ) (cs : List Config) → length cs ≤ n → sum (λ c. length (which (alike c) cs)) (firsts alike cs) ≡ length cs
   unfolding firsts sum
-  parts-of zero [] h = refl
-  parts-of zero (c ∷ cs) h = absurd (omega arith)
-  parts-of (suc n) [] h = refl
-  parts-of (suc n) (c ∷ cs) h =
+  parts_of zero [] h = refl
+  parts_of zero (c ∷ cs) h = absurd (omega arith)
+  parts_of (suc n) [] h = refl
+  parts_of (suc n) (c ∷ cs) h =
       let rest = which (other alike c) cs in
-      let l = which-both (alike c) cs in
-      let here = ap length (which-yes (alike c) c cs (K.self c)) in
+      let l = which_both (alike c) cs in
+      let here = ap length (which_yes (alike c) c cs (K.self c)) in
       let there : sum (λ d. length (which (alike d) (c ∷ cs))) (which (other alike c) (firsts alike cs)) ≡ length rest =
       sum_same _ (λ d. length (which (alike d) rest)) (which (other alike c) (firsts alike cs))
       (every_map (λ d. other alike c d ≡ true) _ (which (other alike c) (firsts alike cs))
       (λ d e.
       let apart : (x : Config) → alike d x ≡ true → other alike c x ≡ true =
       λ x p. rw (is_false (alike c x) (λ q. never_both (K.next c x d q (K.swap d x p)) (not-true (alike c d) e))) in
-      ap length (which-no (alike d) c cs (is_false (alike d c) (λ q. never_both (K.swap d c q) (not-true (alike c d) e))))
-      ∙ ap length (sym (which-weaker (alike d) (other alike c) apart cs)))
-      (which-pass (other alike c) (firsts alike cs)))
-      ∙ ap (sum (λ d. length (which (alike d) rest))) (sym (firsts-other alike K c cs))
-      ∙ parts-of n rest (omega arith) in
+      ap length (which_no (alike d) c cs (is_false (alike d c) (λ q. never_both (K.swap d c q) (not-true (alike c d) e))))
+      ∙ ap length (sym (which_weaker (alike d) (other alike c) apart cs)))
+      (which_pass (other alike c) (firsts alike cs)))
+      ∙ ap (sum (λ d. length (which (alike d) rest))) (sym (firsts_other alike K c cs))
+      ∙ parts_of n rest (omega arith) in
       omega (arith, here, there, l)
 
   pub parts : (cs : List Config) → sum (λ c. length (which (alike c) cs)) (firsts alike cs) ≡ length cs
-  parts cs = parts-of (length cs) cs (omega arith)
+  parts cs = parts_of (length cs) cs (omega arith)
 
-  pub firsts-most : (cs : List Config) → length (firsts alike cs) ≤ length cs
+  pub firsts_most : (cs : List Config) → length (firsts alike cs) ≤ length cs
   unfolding firsts
-  firsts-most [] = omega arith
-  firsts-most (c ∷ cs) = let l = which-both (alike c) (firsts alike cs) in omega (arith, firsts-most cs, l)
+  firsts_most [] = omega arith
+  firsts_most (c ∷ cs) = let l = which_both (alike c) (firsts alike cs) in omega (arith, firsts_most cs, l)

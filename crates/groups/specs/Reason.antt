@@ -3,7 +3,7 @@ pub mod Laws
 use Rattle.std.specs.Prelude.{◌≡◌, ◌⊎◌, Bool, true, false, List, [], ◌∷◌, ℕ}
 use Rattle.sets.specs.Config.{Config}
 use Rattle.groups.specs.Groups.{Group, groups}
-use Rattle.groups.specs.Answers.{many, stopped, justOne}
+use Rattle.groups.specs.Answers.{many, stopped, just_one}
 use Rattle.groups.specs.Sentences.{Many, Stopped, Conflict, JustOne}
 
 -- a state and its one alternative; state, context and alternatives of a subset
@@ -23,7 +23,7 @@ unfoldable pub reason : List ℕ → List Config → Reason
 reason stops cs = elim (stopped stops cs) [
   | true ↦ stop
   | false ↦ pick many (groups cs)
-      (λ (g : Group). pick (justOne cs) cs (λ (c : Config). one c.state c.alternative) (clash g.state g.context g.alternatives))
+      (λ (g : Group). pick (just_one cs) cs (λ (c : Config). one c.state c.alternative) (clash g.state g.context g.alternatives))
       none
 ]
 

@@ -6,32 +6,32 @@ use borrow.Author.Tests.{lt-ltb, le-ltb, eq-eqb, ne_eqb}
 use Rattle.cases.specs.Numbers.{three}
 use Rattle.sets.specs.Config.{Config}
 use Rattle.groups.specs.Lists.{Any, All, In, Rising, which}
-use Rattle.groups.specs.Lists.Laws.{every_map, some-made, made_some}
-use Rattle.groups.specs.Lists.Tests.{which-some, some-which}
+use Rattle.groups.specs.Lists.Laws.{every_map, some_made, made_some}
+use Rattle.groups.specs.Lists.Tests.{which_some, some_which}
 use Rattle.groups.specs.Groups.{insert, rising, alts_of}
 
 -- ---- insertion
 
 module _ (a x : ℕ) (xs : List ℕ) where
-  pub insert-less : a < x → insert a (x ∷ xs) ≡ a ∷ x ∷ xs
+  pub insert_less : a < x → insert a (x ∷ xs) ≡ a ∷ x ∷ xs
   unfolding insert
-  insert-less h = rw (lt-ltb a x h, insert)
+  insert_less h = rw (lt-ltb a x h, insert)
 
-  pub insert-equal : a ≡ x → insert a (x ∷ xs) ≡ x ∷ xs
+  pub insert_equal : a ≡ x → insert a (x ∷ xs) ≡ x ∷ xs
   unfolding insert
-  insert-equal h = rw (le-ltb a x (omega arith), eq-eqb a x h, insert)
+  insert_equal h = rw (le-ltb a x (omega arith), eq-eqb a x h, insert)
 
-  pub insert-greater : x < a → insert a (x ∷ xs) ≡ x ∷ insert a xs
+  pub insert_greater : x < a → insert a (x ∷ xs) ≡ x ∷ insert a xs
   unfolding insert
-  insert-greater h = rw (le-ltb a x (omega arith), ne_eqb a x (λ e. omega arith), insert)
+  insert_greater h = rw (le-ltb a x (omega arith), ne_eqb a x (λ e. omega arith), insert)
 
 pub by_insert : (Q : List ℕ → Type 0) (a x : ℕ) (xs : List ℕ)
     → (a < x → Q (a ∷ x ∷ xs)) → (a ≡ x → Q (x ∷ xs)) → (x < a → Q (x ∷ insert a xs)) → Q (insert a (x ∷ xs))
 by_insert Q a x xs f g h =
     three a x
-    (λ l. subst Q (sym (insert-less a x xs l)) (f l))
-    (λ e. subst Q (sym (insert-equal a x xs e)) (g e))
-    (λ l. subst Q (sym (insert-greater a x xs l)) (h l))
+    (λ l. subst Q (sym (insert_less a x xs l)) (f l))
+    (λ e. subst Q (sym (insert_equal a x xs e)) (g e))
+    (λ l. subst Q (sym (insert_greater a x xs l)) (h l))
 
 every_insert : (P : ℕ → Type 0) (a : ℕ) (xs : List ℕ) → P a → All P xs → All P (insert a xs)
 unfolding insert
@@ -112,7 +112,7 @@ in_alts a cs =
     let alt : Config → ℕ = λ c. c.alternative in
     let r = in_rising a (map alt cs) in (
       λ m. made_some alt (λ x. x ≡ a) cs (r.0 m),
-      λ m. r.1 (some-made alt (λ x. x ≡ a) cs m),
+      λ m. r.1 (some_made alt (λ x. x ≡ a) cs m),
     )
 
 pub alts_most : (cs : List Config) → length (alts_of cs) ≤ length cs
@@ -125,6 +125,6 @@ Passes t a c = (t c ≡ true) × (c.alternative ≡ a)
 
 pub in_passing : (t : Config → Bool) (a : ℕ) (cs : List Config) → In a (alts_of (which t cs)) ↔ Any (Passes t a) cs
 in_passing t a cs = (
-  λ m. which-some t (λ c. c.alternative ≡ a) cs ((in_alts a (which t cs)).0 m),
-  λ m. (in_alts a (which t cs)).1 (some-which t (λ c. c.alternative ≡ a) cs m),
+  λ m. which_some t (λ c. c.alternative ≡ a) cs ((in_alts a (which t cs)).0 m),
+  λ m. (in_alts a (which t cs)).1 (some_which t (λ c. c.alternative ≡ a) cs m),
 )

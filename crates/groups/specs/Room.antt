@@ -9,7 +9,7 @@ use Rattle.groups.specs.Answers.{many, conflicting_alts}
 use Rattle.groups.specs.Rising.{alts_most}
 use Rattle.groups.specs.Firsts.{together_kind}
 use Rattle.groups.specs.Conflicts.{conflicting_configs}
-use Rattle.groups.specs.Parts.{which-both, sum, sum_less, parts, firsts-most}
+use Rattle.groups.specs.Parts.{which_both, sum, sum_less, parts, firsts_most}
 
 -- the alternatives of all groups, counted
 unfoldable pub total : List Group → ℕ
@@ -23,7 +23,7 @@ total_sum cs (d ∷ ds) = ap (λ (n : ℕ). length (subset cs d).alternatives + 
 
 pub groups_most : (cs : List Config) → length (groups cs) ≤ length cs
 unfolding groups
-groups_most cs = omega (arith, length-map (firsts together cs) (subset cs), firsts-most together together_kind cs)
+groups_most cs = omega (arith, length-map (firsts together cs) (subset cs), firsts_most together together_kind cs)
 
 pub total_most : (cs : List Config) → total (groups cs) ≤ length cs
 unfolding groups subset
@@ -39,4 +39,4 @@ groups_fit cs h = omega (arith, groups_most cs, total_most cs)
 pub conflicting_most : (cs : List Config) → length (conflicting_alts cs) ≤ length cs
 conflicting_most cs =
     let t : Config → Bool = λ c. many (subset cs c) in
-    omega (arith, ap length (conflicting_configs cs), alts_most (which t cs), which-both t cs)
+    omega (arith, ap length (conflicting_configs cs), alts_most (which t cs), which_both t cs)

@@ -4,12 +4,12 @@ use Rattle.std.proofs.Common.{sym, ap, ◌∙◌}
 use Rattle.sets.specs.Config.{Config}
 use Rattle.cases.specs.Bools.{never_both}
 use Rattle.groups.specs.Lists.{Any, In, Before, Rising, which}
-use Rattle.groups.specs.Lists.Laws.{some-map, some_in, in_some, every_in, every_of, pairwise_map, pairwise-both, before-map, before-asym}
-use Rattle.groups.specs.Lists.Laws.{sorted-unique, rising_unique, some-made, made_some, every_made, pairwise-made}
+use Rattle.groups.specs.Lists.Laws.{some_map, some_in, in_some, every_in, every_of, pairwise_map, pairwise_both, before_map, before_asym}
+use Rattle.groups.specs.Lists.Laws.{sorted_unique, rising_unique, some_made, made_some, every_made, pairwise_made}
 use Rattle.groups.specs.Groups.{Group, alts_of, together, firsts, subset, groups}
 use Rattle.groups.specs.Sentences.{AtPlace, For, Subsets}
 use Rattle.groups.specs.Rising.{Passes, alts_rise, in_passing}
-use Rattle.groups.specs.Firsts.{together_kind, together_true, true_together, some-firsts, firsts-some, same_kind, firsts-once, firsts-order}
+use Rattle.groups.specs.Firsts.{together_kind, together_true, true_together, some_firsts, firsts_some, same_kind, firsts_once, firsts_order}
 
 -- the config is one of the group's
 abbrev Of : Group → Config → Type 0
@@ -32,8 +32,8 @@ pub subset_exact : (cs : List Config) (c : Config) (a : ℕ) → In a (subset cs
 unfolding subset
 subset_exact cs c a =
     let r = in_passing (together c) a cs in (
-      λ m. some-map (Passes (together c) a) _ cs (λ d o. (beside_true c d o.0, o.1)) (r.0 m),
-      λ m. r.1 (some-map _ (Passes (together c) a) cs (λ d o. (true_beside c d o.0, o.1)) m),
+      λ m. some_map (Passes (together c) a) _ cs (λ d o. (beside_true c d o.0, o.1)) (r.0 m),
+      λ m. r.1 (some_map _ (Passes (together c) a) cs (λ d o. (true_beside c d o.0, o.1)) m),
     )
 
 pub subset_rises : (cs : List Config) (c : Config) → Rising (subset cs c).alternatives
@@ -51,17 +51,17 @@ subsets cs =
     let fs = firsts together cs in
     record {
       each = λ s k. (
-        λ m. firsts-some together (AtPlace s k) cs (made_some (subset cs) (For s k) fs m),
-        λ m. some-made (subset cs) (For s k) fs
-            (some-firsts together (AtPlace s k) cs (λ c d h p. let q = together_true c d h in (q.0 ∙ p.0, q.1 ∙ p.1)) m),
+        λ m. firsts_some together (AtPlace s k) cs (made_some (subset cs) (For s k) fs m),
+        λ m. some_made (subset cs) (For s k) fs
+            (some_firsts together (AtPlace s k) cs (λ c d h p. let q = together_true c d h in (q.0 ∙ p.0, q.1 ∙ p.1)) m),
       );
-      once = pairwise-made (subset cs) (λ g h. For g.state g.context h → ⊥) fs
-          (pairwise_map (λ c d. together c d ≡ false) (λ c d. Beside c d → ⊥) fs (λ c d n e. never_both (true_beside c d e) n) (firsts-once together cs));
+      once = pairwise_made (subset cs) (λ g h. For g.state g.context h → ⊥) fs
+          (pairwise_map (λ c d. together c d ≡ false) (λ c d. Beside c d → ⊥) fs (λ c d n e. never_both (true_beside c d e) n) (firsts_once together cs));
       exact = every_made (subset cs) (λ g. (a : ℕ) → In a g.alternatives ↔ Any (λ c. Of g c × (c.alternative ≡ a)) cs) fs (every_of _ fs (subset_exact cs));
       rising = every_made (subset cs) (λ g. Rising g.alternatives) fs (every_of _ fs (subset_rises cs));
-      order = pairwise-made (subset cs) (λ g h. Before (Of g) (Of h) cs) fs
+      order = pairwise_made (subset cs) (λ g h. Before (Of g) (Of h) cs) fs
           (pairwise_map (λ c d. Before (λ e. together c e ≡ true) (λ e. together d e ≡ true) cs) (λ c d. Before (Beside c) (Beside d) cs) fs
-          (λ c d. before-map _ _ _ _ cs (beside_true c) (true_beside d)) (firsts-order together together_kind cs));
+          (λ c d. before_map _ _ _ _ cs (beside_true c) (true_beside d)) (firsts_order together together_kind cs));
     }
 
 -- the group of a config, with the alternatives that the configs beside it have
@@ -73,8 +73,8 @@ group_of cs c m =
       s.0,
       s.1,
       λ a. (
-        λ n. some-map _ _ cs (λ d o. ((o.0.0 ∙ s.2.0, o.0.1 ∙ s.2.1), o.1)) ((x a).0 n),
-        λ n. (x a).1 (some-map _ _ cs (λ d o. ((o.0.0 ∙ sym s.2.0, o.0.1 ∙ sym s.2.1), o.1)) n),
+        λ n. some_map _ _ cs (λ d o. ((o.0.0 ∙ s.2.0, o.0.1 ∙ s.2.1), o.1)) ((x a).0 n),
+        λ n. (x a).1 (some_map _ _ cs (λ d o. ((o.0.0 ∙ sym s.2.0, o.0.1 ∙ sym s.2.1), o.1)) n),
       ),
     )
 
@@ -87,8 +87,8 @@ config_of_lem cs g m =
       s.0,
       s.1,
       λ a. (
-        λ n. some-map _ _ cs (λ d o. ((o.0.0 ∙ sym s.2.0, o.0.1 ∙ sym s.2.1), o.1)) ((x a).0 n),
-        λ n. (x a).1 (some-map _ _ cs (λ d o. ((o.0.0 ∙ s.2.0, o.0.1 ∙ s.2.1), o.1)) n),
+        λ n. some_map _ _ cs (λ d o. ((o.0.0 ∙ sym s.2.0, o.0.1 ∙ sym s.2.1), o.1)) ((x a).0 n),
+        λ n. (x a).1 (some_map _ _ cs (λ d o. ((o.0.0 ∙ s.2.0, o.0.1 ∙ s.2.1), o.1)) n),
       ),
     )
 
@@ -99,7 +99,7 @@ abbrev Ahead : List Config → Group → Group → Type 0
 Ahead cs g h = (For g.state g.context h → ⊥) × Before (Of g) (Of h) cs
 
 ahead_asym : (cs : List Config) (g h : Group) → Ahead cs g h → Ahead cs h g → ⊥
-ahead_asym cs g h p q = before-asym (Of g) (Of h) cs (λ c u v. p.0 (sym v.0 ∙ u.0, sym v.1 ∙ u.1)) p.1 q.1
+ahead_asym cs g h p q = before_asym (Of g) (Of h) cs (λ c u v. p.0 (sym v.0 ∙ u.0, sym v.1 ∙ u.1)) p.1 q.1
 
 -- a group of one list is in the other
 carried : (cs : List Config) (gs hs : List Group) → Subsets cs gs → Subsets cs hs → (g : Group) → In g gs → In g hs
@@ -110,16 +110,16 @@ carried cs gs hs G H g m =
     let y = every_in _ hs H.exact h s.1 in
     let e : h.alternatives ≡ g.alternatives =
     rising_unique h.alternatives g.alternatives (every_in _ hs H.rising h s.1) (every_in _ gs G.rising g m)
-    (λ a n. (x a).1 (some-map _ _ cs (λ c o. ((o.0.0 ∙ s.2.0, o.0.1 ∙ s.2.1), o.1)) ((y a).0 n)))
-    (λ a n. (y a).1 (some-map _ _ cs (λ c o. ((o.0.0 ∙ sym s.2.0, o.0.1 ∙ sym s.2.1), o.1)) ((x a).0 n))) in
+    (λ a n. (x a).1 (some_map _ _ cs (λ c o. ((o.0.0 ∙ s.2.0, o.0.1 ∙ s.2.1), o.1)) ((y a).0 n)))
+    (λ a n. (y a).1 (some_map _ _ cs (λ c o. ((o.0.0 ∙ sym s.2.0, o.0.1 ∙ sym s.2.1), o.1)) ((x a).0 n))) in
     in_some (λ x. x ≡ g) hs h s.1 (λ i. record { state = s.2.0 i; context = s.2.1 i; alternatives = e i })
 
 -- Any two lists of groups that satisfy the sentences are equal.
 pub subsets_unique : (cs : List Config) (gs hs : List Group) → Subsets cs gs → Subsets cs hs → gs ≡ hs
 subsets_unique cs gs hs G H =
-    sorted-unique (Ahead cs) (ahead_asym cs) gs hs
-    (pairwise-both _ _ (Ahead cs) gs (λ g h p q. (p, q)) G.once G.order)
-    (pairwise-both _ _ (Ahead cs) hs (λ g h p q. (p, q)) H.once H.order)
+    sorted_unique (Ahead cs) (ahead_asym cs) gs hs
+    (pairwise_both _ _ (Ahead cs) gs (λ g h p q. (p, q)) G.once G.order)
+    (pairwise_both _ _ (Ahead cs) hs (λ g h p q. (p, q)) H.once H.order)
     (carried cs gs hs G H)
     (carried cs hs gs H G)
 

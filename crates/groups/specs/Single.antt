@@ -5,8 +5,8 @@ use Rattle.sets.specs.Config.{Config}
 use Rattle.sets.specs.Lists.{all}
 use Rattle.cases.specs.Bools.{bool?}
 use Rattle.groups.specs.Lists.{Any, All, In, Rising}
-use Rattle.groups.specs.Lists.Laws.{some-map, some_in, in_some, every_in, in-every, every_map, every_made, made_every, some-made, made_some}
-use Rattle.groups.specs.Lists.Tests.{all-exact}
+use Rattle.groups.specs.Lists.Laws.{some_map, some_in, in_some, every_in, in_every, every_map, every_made, made_every, some_made, made_some}
+use Rattle.groups.specs.Lists.Tests.{all_exact}
 use Rattle.groups.specs.Groups.{Group, groups}
 use Rattle.groups.specs.Answers.{Answer, none, only, agree, smallest, single_viable_alt, unique_alt}
 use Rattle.groups.specs.Sentences.{Smallest, Viable, Unique, Says}
@@ -34,13 +34,13 @@ says_map P Q r f s a = (λ e. (f a).0 ((s a).0 e), λ q. (s a).1 ((f a).1 q))
 -- ---- the number that all are
 
 module _ (x : ℕ) (xs : List ℕ) where
-  pub agree-yes : all (eqb x) xs ≡ true → agree (x ∷ xs) ≡ only x
+  pub agree_yes : all (eqb x) xs ≡ true → agree (x ∷ xs) ≡ only x
   unfolding agree
-  agree-yes e = rw (e, agree)
+  agree_yes e = rw (e, agree)
 
-  pub agree-no : all (eqb x) xs ≡ false → agree (x ∷ xs) ≡ none
+  pub agree_no : all (eqb x) xs ≡ false → agree (x ∷ xs) ≡ none
   unfolding agree
-  agree-no e = rw (e, agree)
+  agree_no e = rw (e, agree)
 
 abbrev Agreed : List ℕ → ℕ → Type 0
 Agreed xs a = Any (λ x. x ≡ a) xs × All (λ x. x ≡ a) xs
@@ -49,13 +49,13 @@ agree_says : (xs : List ℕ) → Says (Agreed xs) (agree xs)
 unfolding agree
 agree_says [] a = (λ e. none_only e, λ p. absurd p.0)
 agree_says (x ∷ xs) a =
-    let d = all-exact (eqb x) (λ y. x ≡ y) xs (λ y. (eqb-true x y, eq-eqb x y)) in (
+    let d = all_exact (eqb x) (λ y. x ≡ y) xs (λ y. (eqb-true x y, eq-eqb x y)) in (
       λ e. bool? (all (eqb x) xs)
           (λ h.
-          let k : x ≡ a = let o = sym (agree-yes x xs h) ∙ e in cc in
+          let k : x ≡ a = let o = sym (agree_yes x xs h) ∙ e in cc in
           (inl k, (k, every_map (λ y. x ≡ y) (λ y. y ≡ a) xs (λ y l. sym l ∙ k) (d.0 h))))
-          (λ h. none_only (sym (agree-no x xs h) ∙ e)),
-      λ p. agree-yes x xs (d.1 (every_map (λ y. y ≡ a) (λ y. x ≡ y) xs (λ y k. p.1.0 ∙ sym k) p.1.1)) ∙ ap only p.1.0,
+          (λ h. none_only (sym (agree_no x xs h) ∙ e)),
+      λ p. agree_yes x xs (d.1 (every_map (λ y. y ≡ a) (λ y. x ≡ y) xs (λ y k. p.1.0 ∙ sym k) p.1.1)) ∙ ap only p.1.0,
     )
 
 -- `unique_alt` says the alternative that every config has, if there is one.
@@ -66,7 +66,7 @@ unique_says cs =
     says_map (Agreed (map alt cs)) (Unique cs) (agree (map alt cs))
     (λ a. (
       λ p. (made_some alt (λ x. x ≡ a) cs p.0, made_every alt (λ x. x ≡ a) cs p.1),
-      λ p. (some-made alt (λ x. x ≡ a) cs p.0, every_made alt (λ x. x ≡ a) cs p.1),
+      λ p. (some_made alt (λ x. x ≡ a) cs p.0, every_made alt (λ x. x ≡ a) cs p.1),
     ))
     (agree_says (map alt cs))
 
@@ -78,7 +78,7 @@ Full g = ((a : ℕ) × In a g.alternatives) × Rising g.alternatives
 
 groups_full : (cs : List Config) → All Full (groups cs)
 groups_full cs =
-    in-every Full (groups cs) λ g m.
+    in_every Full (groups cs) λ g m.
     let c = config_of_lem cs g m in
     ((c.0.alternative, (c.2 c.0.alternative).1 (in_some _ cs c.0 c.1 ((refl, refl), refl))), every_in _ (groups cs) (subsets cs).rising g m)
 
@@ -103,11 +103,11 @@ viable_says cs =
     (λ a. (
       λ p. (
         let s = some_in (λ g. smallest g ≡ a) gs (made_some smallest (λ x. x ≡ a) gs p.0) in in_some (Smallest a) gs s.0 s.1 ((small a s.0 s.1).0 s.2),
-        in-every (Smallest a) gs (λ g m. (small a g m).0 (every_in (λ g. smallest g ≡ a) gs (made_every smallest (λ x. x ≡ a) gs p.1) g m)),
+        in_every (Smallest a) gs (λ g m. (small a g m).0 (every_in (λ g. smallest g ≡ a) gs (made_every smallest (λ x. x ≡ a) gs p.1) g m)),
       ),
       λ p. (
-        some-made smallest (λ x. x ≡ a) gs (let s = some_in (Smallest a) gs p.0 in in_some (λ g. smallest g ≡ a) gs s.0 s.1 ((small a s.0 s.1).1 s.2)),
-        every_made smallest (λ x. x ≡ a) gs (in-every (λ g. smallest g ≡ a) gs (λ g m. (small a g m).1 (every_in (Smallest a) gs p.1 g m))),
+        some_made smallest (λ x. x ≡ a) gs (let s = some_in (Smallest a) gs p.0 in in_some (λ g. smallest g ≡ a) gs s.0 s.1 ((small a s.0 s.1).1 s.2)),
+        every_made smallest (λ x. x ≡ a) gs (in_every (λ g. smallest g ≡ a) gs (λ g m. (small a g m).1 (every_in (Smallest a) gs p.1 g m))),
       ),
     ))
     (agree_says (map smallest gs))
@@ -128,25 +128,25 @@ viable_served cs a =
           let s = some_in (Smallest a) gs v.0 in
           let c = config_of_lem cs s.0 s.1 in
           record {
-            some = some-map _ _ cs (λ d o. o.1) ((c.2 a).0 s.2.0);
-            least = in-every _ cs (λ d m.
+            some = some_map _ _ cs (λ d o. o.1) ((c.2 a).0 s.2.0);
+            least = in_every _ cs (λ d m.
                 let g = group_of cs d m in
                 every_in (λ b. a ≤ b) g.0.alternatives (every_in (Smallest a) gs v.1 g.0 g.1).1 d.alternative
                 ((g.2 d.alternative).1 (in_some _ cs d m ((refl, refl), refl))));
-            each = in-every _ cs each;
+            each = in_every _ cs each;
           },
       λ v.
           let small : (g : Group) → In g gs → Smallest a g =
           λ g m.
           let c = config_of_lem cs g m in (
             (c.2 a).1 (every_in _ cs v.each c.0 c.1),
-            in-every (λ b. a ≤ b) g.alternatives (λ b n.
+            in_every (λ b. a ≤ b) g.alternatives (λ b n.
                 let d = some_in _ cs ((c.2 b).0 n) in
                 subst (λ (x : ℕ). a ≤ x) d.2.1 (every_in (λ c. a ≤ c.alternative) cs v.least d.0 d.1)),
           ) in
           let s = some_in _ cs v.some in
           let g = group_of cs s.0 s.1 in
-          (in_some (Smallest a) gs g.0 g.1 (small g.0 g.1), in-every (Smallest a) gs small),
+          (in_some (Smallest a) gs g.0 g.1 (small g.0 g.1), in_every (Smallest a) gs small),
     )
 
 pub viable_configs : (cs : List Config) → Says (Served cs) (single_viable_alt cs)

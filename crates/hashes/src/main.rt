@@ -1,5 +1,7 @@
 // Compares the hash of each recorded list of words with the Rust's, and prints how many differ.
 // data/HOW.txt says what is recorded and how it was made.
+#![tactic(auto)]
+
 mod records;
 
 ghost use Rattle.std.specs.Prelude.{◌≤◌};

@@ -6,13 +6,13 @@ use Rattle.std.proofs.Math.ListN.{length, set, length-set}
 use Rattle.std.proofs.Math.Seq.{get_or-set_same, get_or-set_other}
 use Rattle.cases.specs.Numbers.{two}
 use Rattle.words.specs.Lent.{cleared_range}
-use Rattle.words.specs.Lent.Laws.{length-clearedRange, clearedRange-inside}
+use Rattle.words.specs.Lent.Laws.{length_cleared_range, cleared_range_inside}
 use Rattle.arena.specs.Store.{Node, Store}
 use Rattle.layout.specs.Layout.{scratch_words}
 use Rattle.layout.specs.Scratch.{head, link, low, high, stack_parent, stack_state}
-use Rattle.index.specs.Hash.{hash, node_hash, node_hash_below, bucket_of, hash-new, hash-old}
+use Rattle.index.specs.Hash.{hash, node_hash, node_hash_below, bucket_of, hash_new, hash_old}
 use Rattle.index.specs.Older.{older_all, older_part}
-use Rattle.index.specs.Chain.{newest, newest-here, newest-older}
+use Rattle.index.specs.Chain.{newest, newest_here, newest_older}
 use Rattle.index.specs.Index.{Indexed}
 use Rattle.index.specs.Writes.{put_entry, put_index}
 
@@ -21,8 +21,8 @@ use Rattle.index.specs.Writes.{put_entry, put_index}
 pub index_empty : (z : List ℕ) → length z ≡ scratch_words → Indexed [] (cleared_range z 0 512)
 unfolding head newest
 index_empty z l = record {
-  sized = length-clearedRange z 0 512 (omega arith) (omega arith) ∙ l;
-  heads = λ b h. clearedRange-inside z 0 512 (omega arith) (omega arith) b (omega arith) h;
+  sized = length_cleared_range z 0 512 (omega arith) (omega arith) ∙ l;
+  heads = λ b h. cleared_range_inside z 0 512 (omega arith) (omega arith) b (omega arith) h;
   links = λ c h. absurd (omega arith);
   lows = λ c h. absurd (omega arith);
   highs = λ c h. absurd (omega arith);
@@ -45,38 +45,38 @@ module _ (z : List ℕ) (e p r : ℕ) where
   unfolding put_entry
   entry_length = simp length-set
 
-  pub entry-below : (i : ℕ) → i < 7936 + 2 * e → get_or (put_entry z e p r) i 0 ≡ get_or z i 0
+  pub entry_below : (i : ℕ) → i < 7936 + 2 * e → get_or (put_entry z e p r) i 0 ≡ get_or z i 0
   unfolding put_entry
-  entry-below i h =
+  entry_below i h =
       let a : i ≢ 7936 + 2 * e + 1 = omega arith in
       let b : i ≢ 7936 + 2 * e = omega arith in
       rw (get_or-set_other, get_or-set_other)
 
   module _ (h : 7936 + 2 * e + 1 < length z) where
-    pub entry-parent : stack_parent (put_entry z e p r) e ≡ p
+    pub entry_parent_lem : stack_parent (put_entry z e p r) e ≡ p
     unfolding put_entry stack_parent
-    entry-parent =
+    entry_parent_lem =
         let a : 7936 + 2 * e ≢ 7936 + 2 * e + 1 = omega arith in
         let b : 7936 + 2 * e < length z = omega arith in
         rw (get_or-set_other, get_or-set_same)
 
-    pub entry-state : stack_state (put_entry z e p r) e ≡ r
+    pub entry_state_lem : stack_state (put_entry z e p r) e ≡ r
     unfolding put_entry stack_state
-    entry-state =
+    entry_state_lem =
         let b : 7936 + 2 * e + 1 < length (set z (7936 + 2 * e) p) = simp length-set (omega arith) in
         rw get_or-set_same
 
   module _ (d : ℕ) (n : d ≡ e → ⊥) where
-    pub other-parent : stack_parent (put_entry z e p r) d ≡ stack_parent z d
+    pub other_parent : stack_parent (put_entry z e p r) d ≡ stack_parent z d
     unfolding put_entry stack_parent
-    other-parent =
+    other_parent =
         let a : 7936 + 2 * d ≢ 7936 + 2 * e + 1 = omega arith in
         let b : 7936 + 2 * d ≢ 7936 + 2 * e = omega arith in
         rw (get_or-set_other, get_or-set_other)
 
-    pub other-state : stack_state (put_entry z e p r) d ≡ stack_state z d
+    pub other_state : stack_state (put_entry z e p r) d ≡ stack_state z d
     unfolding put_entry stack_state
-    other-state =
+    other_state =
         let a : 7936 + 2 * d + 1 ≢ 7936 + 2 * e + 1 = omega arith in
         let b : 7936 + 2 * d + 1 ≢ 7936 + 2 * e = omega arith in
         rw (get_or-set_other, get_or-set_other)
@@ -87,45 +87,45 @@ module _ (z : List ℕ) (c h : ℕ) (l : length z ≡ scratch_words) (k : c < 51
   one : List ℕ
   one = set z (512 + c) (head z (bucket_of h))
 
-  two-set : List ℕ
+  two_set : List ℕ
   unfolding one
-  two-set = set one (bucket_of h) (c + 1)
+  two_set = set one (bucket_of h) (c + 1)
 
-  three-set : List ℕ
-  unfolding two-set
-  three-set = set two-set (1024 + c) (h % 2 ^ 32)
+  three_set : List ℕ
+  unfolding two_set
+  three_set = set two_set (1024 + c) (h % 2 ^ 32)
 
-  pub put-length : length (put_index z c h) ≡ length z
+  pub put_length : length (put_index z c h) ≡ length z
   unfolding put_index
-  put-length = simp length-set
+  put_length = simp length-set
 
   -- a word that is none of the four
   pub put_other : (i : ℕ) → i ≢ 512 + c → i ≢ bucket_of h → i ≢ 1024 + c → i ≢ 1536 + c → get_or (put_index z c h) i 0 ≡ get_or z i 0
   unfolding put_index
   put_other i p q r s = rw (get_or-set_other, get_or-set_other, get_or-set_other, get_or-set_other)
 
-  put-high : high (put_index z c h) c ≡ h / 2 ^ 32
-  unfolding put_index high three-set
-  put-high = let i : 1536 + c < length three-set = simp length-set (omega arith) in rw get_or-set_same
+  put_high : high (put_index z c h) c ≡ h / 2 ^ 32
+  unfolding put_index high three_set
+  put_high = let i : 1536 + c < length three_set = simp length-set (omega arith) in rw get_or-set_same
 
   put_low : low (put_index z c h) c ≡ h % 2 ^ 32
-  unfolding put_index low two-set
+  unfolding put_index low two_set
   put_low =
       let n : 1024 + c ≢ 1536 + c = omega arith in
-      let i : 1024 + c < length two-set = simp length-set (omega arith) in
+      let i : 1024 + c < length two_set = simp length-set (omega arith) in
       rw (get_or-set_other, get_or-set_same)
 
-  put-head : head (put_index z c h) (bucket_of h) ≡ c + 1
+  put_head : head (put_index z c h) (bucket_of h) ≡ c + 1
   unfolding put_index head one
-  put-head =
+  put_head =
       let n : bucket_of h ≢ 1536 + c = omega arith in
       let m : bucket_of h ≢ 1024 + c = omega arith in
       let i : bucket_of h < length one = simp length-set (omega arith) in
       rw (get_or-set_other, get_or-set_other, get_or-set_same)
 
-  put-link : link (put_index z c h) c ≡ head z (bucket_of h)
+  put_link : link (put_index z c h) c ≡ head z (bucket_of h)
   unfolding put_index link
-  put-link =
+  put_link =
       let n : 512 + c ≢ 1536 + c = omega arith in
       let m : 512 + c ≢ 1024 + c = omega arith in
       let o : 512 + c ≢ bucket_of h = omega arith in
@@ -134,21 +134,21 @@ module _ (z : List ℕ) (c h : ℕ) (l : length z ≡ scratch_words) (k : c < 51
 
   -- the words of other contexts and other chains are as they were
   module _ (d : ℕ) where
-    other-head : (d ≡ bucket_of h → ⊥) → d < 512 → head (put_index z c h) d ≡ head z d
+    other_head : (d ≡ bucket_of h → ⊥) → d < 512 → head (put_index z c h) d ≡ head z d
     unfolding head
-    other-head j i = put_other d (omega arith) j (omega arith) (omega arith)
+    other_head j i = put_other d (omega arith) j (omega arith) (omega arith)
 
-    other-link : d < c → link (put_index z c h) d ≡ link z d
+    other_link : d < c → link (put_index z c h) d ≡ link z d
     unfolding link
-    other-link i = put_other (512 + d) (omega arith) (omega arith) (omega arith) (omega arith)
+    other_link i = put_other (512 + d) (omega arith) (omega arith) (omega arith) (omega arith)
 
-    other-low : d < c → low (put_index z c h) d ≡ low z d
+    other_low : d < c → low (put_index z c h) d ≡ low z d
     unfolding low
-    other-low i = put_other (1024 + d) (omega arith) (omega arith) (omega arith) (omega arith)
+    other_low i = put_other (1024 + d) (omega arith) (omega arith) (omega arith) (omega arith)
 
-    other-high : d < c → high (put_index z c h) d ≡ high z d
+    other_high : d < c → high (put_index z c h) d ≡ high z d
     unfolding high
-    other-high i = put_other (1536 + d) (omega arith) (omega arith) (omega arith) (omega arith)
+    other_high i = put_other (1536 + d) (omega arith) (omega arith) (omega arith) (omega arith)
 
 pub bucket_small : (h : ℕ) → h < 2 ^ 64 → bucket_of h < 512
 unfolding bucket_of
@@ -159,17 +159,17 @@ index_add s n z h k e v =
     let c : ℕ = length s in
     let b : bucket_of h < 512 = bucket_small h (rw e (node_hash_below (hash s) n)) in
     let l = v.sized in
-    let at : hash (n ∷ s) c ≡ h = hash-new n s c refl ∙ sym e in
+    let at : hash (n ∷ s) c ≡ h = hash_new n s c refl ∙ sym e in
     record {
-      sized = put-length z c h l k b ∙ l;
+      sized = put_length z c h l k b ∙ l;
       heads = λ d i.
           two d (bucket_of h)
-          (λ j. rw j (put-head z c h l k b ∙ add-one c ∙ sym (newest-here n s (bucket_of h) (ap bucket_of (sym e)))))
-          (λ j. rw (newest-older n s d (λ q. j (sym q ∙ ap bucket_of (sym e)))) (other-head z c h l k b d j i ∙ v.heads d i));
+          (λ j. rw j (put_head z c h l k b ∙ add-one c ∙ sym (newest_here n s (bucket_of h) (ap bucket_of (sym e)))))
+          (λ j. rw (newest_older n s d (λ q. j (sym q ∙ ap bucket_of (sym e)))) (other_head z c h l k b d j i ∙ v.heads d i));
       links = λ d i.
           two d c
-          (λ j. rw (j, at, older_part n s c (omega arith), older_all s c (omega arith)) (put-link z c h l k b ∙ v.heads (bucket_of h) b))
-          (λ j. rw (hash-old n s d (omega arith), older_part n s d (omega arith)) (other-link z c h l k b d (omega arith) ∙ v.links d (omega arith)));
-      lows = λ d i. two d c (λ j. rw (j, at) (put_low z c h l k b)) (λ j. rw (hash-old n s d (omega arith)) (other-low z c h l k b d (omega arith) ∙ v.lows d (omega arith)));
-      highs = λ d i. two d c (λ j. rw (j, at) (put-high z c h l k b)) (λ j. rw (hash-old n s d (omega arith)) (other-high z c h l k b d (omega arith) ∙ v.highs d (omega arith)));
+          (λ j. rw (j, at, older_part n s c (omega arith), older_all s c (omega arith)) (put_link z c h l k b ∙ v.heads (bucket_of h) b))
+          (λ j. rw (hash_old n s d (omega arith), older_part n s d (omega arith)) (other_link z c h l k b d (omega arith) ∙ v.links d (omega arith)));
+      lows = λ d i. two d c (λ j. rw (j, at) (put_low z c h l k b)) (λ j. rw (hash_old n s d (omega arith)) (other_low z c h l k b d (omega arith) ∙ v.lows d (omega arith)));
+      highs = λ d i. two d c (λ j. rw (j, at) (put_high z c h l k b)) (λ j. rw (hash_old n s d (omega arith)) (other_high z c h l k b d (omega arith) ∙ v.highs d (omega arith)));
     }

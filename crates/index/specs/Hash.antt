@@ -40,13 +40,13 @@ bucket_of h = h / 2 ^ 55
 -- ---- laws
 
 module _ (n : Node) (s : Store) (c : ℕ) where
-  pub hash-new : c ≡ length s → hash (n ∷ s) c ≡ node_hash (hash s) n
+  pub hash_new : c ≡ length s → hash (n ∷ s) c ≡ node_hash (hash s) n
   unfolding hash
-  hash-new h = rw (eq-eqb c (length s) h, hash)
+  hash_new h = rw (eq-eqb c (length s) h, hash)
 
-  pub hash-old : c < length s → hash (n ∷ s) c ≡ hash s c
+  pub hash_old : c < length s → hash (n ∷ s) c ≡ hash s c
   unfolding hash
-  hash-old h = rw (ne_eqb c (length s) (omega arith), hash)
+  hash_old h = rw (ne_eqb c (length s) (omega arith), hash)
 
 pub node_hash_below : (f : ℕ → ℕ) (n : Node) → node_hash f n < 2 ^ 64
 unfolding node_hash

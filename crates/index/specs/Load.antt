@@ -8,7 +8,7 @@ use Rattle.layout.specs.Listing.{listing}
 use Rattle.layout.specs.Listing.Laws.{Entries, listing_agree}
 use Rattle.index.specs.Records.{Stacked, stack_node}
 use Rattle.index.specs.Writes.{put_entry, Loaded}
-use Rattle.index.specs.Grow.{entry_length, entry-below, entry-parent, entry-state, other-parent, other-state}
+use Rattle.index.specs.Grow.{entry_length, entry_below, entry_parent_lem, entry_state_lem, other_parent, other_state}
 
 -- nothing is copied yet
 pub load_none : (w z : List ℕ) (from at : ℕ) → length z ≡ scratch_words → Loaded w z from 0 at z
@@ -26,43 +26,43 @@ load_more w z u from i at p r h ep er v =
     let l = v.sized in
     record {
       sized = entry_length u (at + i) p r ∙ l;
-      below = λ j k. entry-below u (at + i) p r j (omega arith) ∙ v.below j k;
+      below = λ j k. entry_below u (at + i) p r j (omega arith) ∙ v.below j k;
       parents = λ j k.
           two j i
-          (λ e. rw e (entry-parent u (at + i) p r (omega arith) ∙ ep))
-          (λ n. other-parent u (at + i) p r (at + j) (omega arith) ∙ v.parents j (omega arith));
+          (λ e. rw e (entry_parent_lem u (at + i) p r (omega arith) ∙ ep))
+          (λ n. other_parent u (at + i) p r (at + j) (omega arith) ∙ v.parents j (omega arith));
       states = λ j k.
           two j i
-          (λ e. rw e (entry-state u (at + i) p r (omega arith) ∙ er))
-          (λ n. other-state u (at + i) p r (at + j) (omega arith) ∙ v.states j (omega arith));
+          (λ e. rw e (entry_state_lem u (at + i) p r (omega arith) ∙ er))
+          (λ n. other_state u (at + i) p r (at + j) (omega arith) ∙ v.states j (omega arith));
     }
 
 -- ---- the stack holds what the pool held
 
 module _ (w z : List ℕ) (from n at : ℕ) (u : List ℕ) (v : Loaded w z from n at u) where
-  pub loaded-node : stack_node u at n ≡ listing (state w) (parent w) from n
-  loaded-node = listing_agree (stack_state u) (stack_parent u) (state w) (parent w) at from n (λ j h. (v.states j h, v.parents j h))
+  pub loaded_node : stack_node u at n ≡ listing (state w) (parent w) from n
+  loaded_node = listing_agree (stack_state u) (stack_parent u) (state w) (parent w) at from n (λ j h. (v.states j h, v.parents j h))
 
-  state-at : (j : ℕ) → at ≤ j → j < at + n → stack_state u j ≡ state w (from + (j - at))
-  state-at j a b =
+  state_at_lem : (j : ℕ) → at ≤ j → j < at + n → stack_state u j ≡ state w (from + (j - at))
+  state_at_lem j a b =
       let e : j ≡ at + (j - at) = omega arith in
       ap (stack_state u) e ∙ v.states (j - at) (omega arith)
 
-  parent-at : (j : ℕ) → at ≤ j → j < at + n → stack_parent u j ≡ parent w (from + (j - at))
-  parent-at j a b =
+  parent_at_lem : (j : ℕ) → at ≤ j → j < at + n → stack_parent u j ≡ parent w (from + (j - at))
+  parent_at_lem j a b =
       let e : j ≡ at + (j - at) = omega arith in
       ap (stack_parent u) e ∙ v.parents (j - at) (omega arith)
 
-  pub loaded-entries : (c : ℕ) → Entries (state w) (parent w) from n c → Entries (stack_state u) (stack_parent u) at n c
-  loaded-entries c e = record {
-    fit = λ j a b. rw (state-at j a b) (e.fit _ (omega arith) (omega arith));
-    older = λ j a b. rw (parent-at j a b) (e.older _ (omega arith) (omega arith));
+  pub loaded_entries : (c : ℕ) → Entries (state w) (parent w) from n c → Entries (stack_state u) (stack_parent u) at n c
+  loaded_entries c e = record {
+    fit = λ j a b. rw (state_at_lem j a b) (e.fit _ (omega arith) (omega arith));
+    older = λ j a b. rw (parent_at_lem j a b) (e.older _ (omega arith) (omega arith));
     rise = λ j a b.
         let s : suc j - at ≡ suc (j - at) = omega arith in
         let q : from + suc (j - at) ≡ suc (from + (j - at)) = omega arith in
-        rw (state-at j a (omega arith), state-at (suc j) (omega arith) b, s, q) (e.rise _ (omega arith) (omega arith));
-    dollar = λ j a b s. parent-at j a b ∙ e.dollar _ (omega arith) (omega arith) (sym (state-at j a b) ∙ s);
+        rw (state_at_lem j a (omega arith), state_at_lem (suc j) (omega arith) b, s, q) (e.rise _ (omega arith) (omega arith));
+    dollar = λ j a b s. parent_at_lem j a b ∙ e.dollar _ (omega arith) (omega arith) (sym (state_at_lem j a b) ∙ s);
   }
 
-  pub loaded-stacked : (c : ℕ) → at + n ≤ 4200 → Entries (state w) (parent w) from n c → Stacked u at n c
-  loaded-stacked c h e = record { sized = v.sized; room = h; entries = loaded-entries c e }
+  pub loaded_stacked : (c : ℕ) → at + n ≤ 4200 → Entries (state w) (parent w) from n c → Stacked u at n c
+  loaded_stacked c h e = record { sized = v.sized; room = h; entries = loaded_entries c e }

@@ -4,7 +4,7 @@ use Rattle.std.proofs.Common.{sym, arith, lt-ltb, le-ltb}
 use Rattle.cases.specs.Numbers.{two}
 use Rattle.arena.specs.Store.{Node, Store, node_at}
 use Rattle.arena.specs.Soundness.{Sound}
-use Rattle.arena.specs.Trees.{node-new, node-old}
+use Rattle.arena.specs.Trees.{node_new, node_old}
 
 unfoldable pub older : Store → ℕ → Store
 older [] k = []
@@ -31,8 +31,8 @@ pub older_next : (s : Store) (c : ℕ) → c < length s → older s (suc c) ≡ 
 older_next [] c h = absurd (omega arith)
 older_next (n ∷ s) c h =
     two c (length s)
-    (λ e. rw (older_all (n ∷ s) (suc c) (omega arith), node-new n s c e, older_part n s c (omega arith), older_all s c (omega arith)))
-    (λ d. rw (older_part n s (suc c) (omega arith), node-old n s c (omega arith), older_part n s c (omega arith)) (older_next s c (omega arith)))
+    (λ e. rw (older_all (n ∷ s) (suc c) (omega arith), node_new n s c e, older_part n s c (omega arith), older_all s c (omega arith)))
+    (λ d. rw (older_part n s (suc c) (omega arith), node_old n s c (omega arith), older_part n s c (omega arith)) (older_next s c (omega arith)))
 
 pub older_sound : (s : Store) (k : ℕ) → Sound s → k ≤ length s → Sound (older s k)
 older_sound [] k w h = rw (older_all [] k (omega arith)) tt

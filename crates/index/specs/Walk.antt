@@ -10,7 +10,7 @@ use Rattle.arena.specs.Kinds.{size}
 use Rattle.layout.specs.Layout.{stop}
 use Rattle.layout.specs.Scratch.{stack_parent, stack_state}
 use Rattle.layout.specs.Listing.{listing}
-use Rattle.layout.specs.Listing.Laws.{Entries, listing-stop, listing-more, stop_last}
+use Rattle.layout.specs.Listing.Laws.{Entries, listing_stop, listing_more, stop_last}
 use Rattle.index.specs.Hash.{parent_words, state_words, node_hash, hash}
 use Rattle.index.specs.Records.{Stacked, stack_node, hash_in}
 use Rattle.index.specs.Index.{Indexed}
@@ -36,38 +36,38 @@ turn g x at n i h step =
     ap (g (at + i)) a ∙ step k a ∙ ap (λ (j : ℕ). x (g j k)) (sym b)
 
 module _ (f : ℕ → ℕ) (st pa : ℕ → ℕ) (i k c : ℕ) (v : Entries st pa i (suc k) c) where
-  parents-step : parent_words f (listing st pa i (suc k)) ≡ f (pa i) ∷ parent_words f (listing st pa (suc i) k)
+  parents_step : parent_words f (listing st pa i (suc k)) ≡ f (pa i) ∷ parent_words f (listing st pa (suc i) k)
   unfolding parent_words listing
-  parents-step =
+  parents_step =
       two (st i) stop
-      (λ e. rw (listing-stop st pa i k e, stop_last st pa i k c v e, v.dollar i (omega arith) (omega arith) e))
-      (λ n. rw (listing-more st pa i k n))
+      (λ e. rw (listing_stop st pa i k e, stop_last st pa i k c v e, v.dollar i (omega arith) (omega arith) e))
+      (λ n. rw (listing_more st pa i k n))
 
-  states-step : state_words (listing st pa i (suc k)) ≡ st i ∷ state_words (listing st pa (suc i) k)
+  states_step : state_words (listing st pa i (suc k)) ≡ st i ∷ state_words (listing st pa (suc i) k)
   unfolding state_words listing
-  states-step =
+  states_step =
       two (st i) stop
-      (λ e. rw (listing-stop st pa i k e, stop_last st pa i k c v e, e))
-      (λ n. rw (listing-more st pa i k n))
+      (λ e. rw (listing_stop st pa i k e, stop_last st pa i k c v e, e))
+      (λ n. rw (listing_more st pa i k n))
 
 module _ (f : ℕ → ℕ) (z : List ℕ) (at n c i : ℕ) (v : Stacked z at n c) (h : i < n) where
-  rest-entries : (k : ℕ) → n - i ≡ suc k → Entries (stack_state z) (stack_parent z) (at + i) (suc k) c
-  rest-entries k e = rw e at (entries_from (stack_state z) (stack_parent z) at n c i v.entries (omega arith))
+  rest_entries : (k : ℕ) → n - i ≡ suc k → Entries (stack_state z) (stack_parent z) (at + i) (suc k) c
+  rest_entries k e = rw e at (entries_from (stack_state z) (stack_parent z) at n c i v.entries (omega arith))
 
   -- one parent more is hashed, one state more
-  pub parents-turn : (g : ℕ)
+  pub parents_turn : (g : ℕ)
       → hash_from g (parent_words f (stack_node z (at + i) (n - i))) ≡ hash_from (mixed g (f (stack_parent z (at + i)))) (parent_words f (stack_node z (at + (i + 1)) (n - (i + 1))))
   unfolding hash_from
-  parents-turn g = ap (hash_from g)
+  parents_turn g = ap (hash_from g)
       (turn (λ j k. parent_words f (stack_node z j k)) (λ ws. f (stack_parent z (at + i)) ∷ ws) at n i h
-      (λ k e. parents-step f (stack_state z) (stack_parent z) (at + i) k c (rest-entries k e)))
+      (λ k e. parents_step f (stack_state z) (stack_parent z) (at + i) k c (rest_entries k e)))
 
-  pub states-turn : (g : ℕ)
+  pub states_turn : (g : ℕ)
       → hash_from g (state_words (stack_node z (at + i) (n - i))) ≡ hash_from (mixed g (stack_state z (at + i))) (state_words (stack_node z (at + (i + 1)) (n - (i + 1))))
   unfolding hash_from
-  states-turn g = ap (hash_from g)
+  states_turn g = ap (hash_from g)
       (turn (λ j k. state_words (stack_node z j k)) (λ ws. stack_state z (at + i) ∷ ws) at n i h
-      (λ k e. states-step f (stack_state z) (stack_parent z) (at + i) k c (rest-entries k e)))
+      (λ k e. states_step f (stack_state z) (stack_parent z) (at + i) k c (rest_entries k e)))
 
 -- where the walk begins and ends
 pub walk_start : (z : List ℕ) (at n : ℕ) → stack_node z at n ≡ stack_node z (at + 0) (n - 0)
@@ -114,11 +114,11 @@ array_hash f n k e h =
 pub single_hash : (f : ℕ → ℕ) (z : List ℕ) (at : ℕ) → (stack_state z at ≡ stop → ⊥) → node_hash f (stack_node z at 1) ≡ hash_of
     (singleton_words (f (stack_parent z at)) (stack_state z at))
 unfolding node_hash listing
-single_hash f z at n = rw (listing-more (stack_state z) (stack_parent z) at 0 n)
+single_hash f z at n = rw (listing_more (stack_state z) (stack_parent z) at 0 n)
 
 pub dollar_hash : (f : ℕ → ℕ) (z : List ℕ) (at : ℕ) → stack_state z at ≡ stop → node_hash f (stack_node z at 1) ≡ hash_of empty_words
 unfolding node_hash
-dollar_hash f z at e = rw (listing-stop (stack_state z) (stack_parent z) at 0 e)
+dollar_hash f z at e = rw (listing_stop (stack_state z) (stack_parent z) at 0 e)
 
 -- ---- the index holds the hashes
 

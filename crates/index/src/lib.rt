@@ -1,5 +1,7 @@
 // The index over a store's records, in the scratch: hashes, chains by bucket, and lookup of the
 // entries that stand on the stack. All of it is internal: callers keep `Records` and `Indexed`.
+#![tactic(auto)]
+
 mod add;
 mod find;
 mod hash;

@@ -8,7 +8,7 @@ use Rattle.layout.specs.Decode.Laws.{store_length}
 use Rattle.layout.specs.Encode.{words_of}
 use Rattle.layout.specs.Sound.{SoundWords}
 use Rattle.encoding.specs.Good.{GoodStore}
-use Rattle.encoding.specs.Reads.{kind-most, array-entries, array-fits}
+use Rattle.encoding.specs.Reads.{kind_most, array_entries, array_fits}
 use Rattle.encoding.specs.Written.{words_length, words_used}
 use Rattle.encoding.specs.Encoded.{encoded, store_of_words}
 use Rattle.encoding.specs.Decoded.{decoded}
@@ -40,26 +40,26 @@ pub record GrewTo (z u : List ℕ) (w : List ℕ) (x : ℕ × Store) (c : ℕ) :
 -- ---- what such a store gives
 
 module _ {w z : List ℕ} (v : Live w z) where
-  pub live-length : length w ≡ store_words
-  live-length = ap length v.words ∙ words_length (store_of w)
+  pub live_length : length w ≡ store_words
+  live_length = ap length v.words ∙ words_length (store_of w)
 
-  pub live-sound : SoundWords w
-  live-sound = subst SoundWords (sym v.words) (encoded (store_of w) v.good)
+  pub live_sound : SoundWords w
+  live_sound = subst SoundWords (sym v.words) (encoded (store_of w) v.good)
 
-  pub live-count : count w ≡ length (store_of w)
-  live-count = sym (store_length w (count w))
+  pub live_count : count w ≡ length (store_of w)
+  live_count = sym (store_length w (count w))
 
-  pub live-used : used w ≡ Rattle.arena.specs.Room.pool (store_of w)
-  live-used = ap used v.words ∙ words_used (store_of w) v.good.fits
+  pub live_used : used w ≡ Rattle.arena.specs.Room.pool (store_of w)
+  live_used = ap used v.words ∙ words_used (store_of w) v.good.fits
 
-  pub live-records : Records w (count w)
-  live-records = record {
-    sized = live-length;
-    few = rw live-count v.good.fits.0;
-    kinds = λ i h. kind-most w live-sound i h;
-    long = λ i h k. live-sound.long i h k;
-    within = λ i h k. omega (arith, array-fits w live-sound i h k, live-sound.counted.2);
-    entries = λ i h k. array-entries w live-sound i h k;
+  pub live_records : Records w (count w)
+  live_records = record {
+    sized = live_length;
+    few = rw live_count v.good.fits.0;
+    kinds = λ i h. kind_most w live_sound i h;
+    long = λ i h k. live_sound.long i h k;
+    within = λ i h k. omega (arith, array_fits w live_sound i h k, live_sound.counted.2);
+    entries = λ i h k. array_entries w live_sound i h k;
     sound = v.good.sound;
   }
 

@@ -11,7 +11,7 @@ use Rattle.words.specs.declared.names.CompactState.{CompactState}
 use Rattle.words.specs.Compact.Laws.{state_of_compacted, mark_of_compacted, out_of_compacted}
 use Rattle.arena.specs.Store.{end, push, Store, tree}
 use Rattle.arena.specs.Place.{place, intern}
-use Rattle.arena.specs.Placed.{place-single}
+use Rattle.arena.specs.Placed.{place_single}
 use Rattle.layout.specs.Layout.{scratch_words, stop, count}
 use Rattle.layout.specs.Scratch.{stack_parent, stack_state}
 use Rattle.layout.specs.Decode.{store_of}
@@ -21,7 +21,7 @@ use Rattle.encoding.specs.Decide.{fits}
 use Rattle.encoding.specs.Decide.Laws.{true_fits, fits_false}
 use Rattle.index.specs.Records.{stack_node}
 use Rattle.index.specs.Writes.{put_entry}
-use Rattle.index.specs.Grow.{index_frame, entry_length, entry-below, entry-parent, entry-state}
+use Rattle.index.specs.Grow.{index_frame, entry_length, entry_below, entry_parent_lem, entry_state_lem}
 use Rattle.index.specs.Same.{single_node}
 use Rattle.words.specs.Refusals.{number}
 use Rattle.words.specs.declared.refusals.Refusal.{Refusal}
@@ -30,7 +30,7 @@ use Rattle.store.specs.declared.inner.admit.Admitted.{Admitted}
 use Rattle.store.specs.declared.inner.admit.Admitted.TheVariants.{Ready as ready, Refused}
 use Rattle.store.specs.Calls.{refused, context, Left, zeros, leaves, leaves_after}
 use Rattle.store.specs.Nested.{grown}
-use Rattle.interning.specs.Live.{Live, Pushed, GrewTo, live-count, ready_live}
+use Rattle.interning.specs.Live.{Live, Pushed, GrewTo, live_count, ready_live}
 use Rattle.interning.specs.SingletonCall.Laws.{singleton_nested, if_state, placed_single}
 use Rattle.interning.specs.SingletonCall.{singleton_call}
 use Rattle.interning.specs.Interned.{More, Interns, answered}
@@ -41,23 +41,23 @@ use Rattle.interning.specs.declared.inner.intern.Interned.TheVariants.{Found, Ma
 -- ---- a context that is made, or no room
 
 module _ (w : List ℕ) (x : ℕ × Store) where
-  pub grown-fits : (w' : List ℕ) (c k : ℕ) → Fits x.1 → c ≡ x.0 → w' ≡ words_of x.1 → length (store_of w) + k ≡ length x.1
+  pub grown_fits : (w' : List ℕ) (c k : ℕ) → Fits x.1 → c ≡ x.0 → w' ≡ words_of x.1 → length (store_of w) + k ≡ length x.1
       → leaves_after 0 k (context c) w' zeros ≡ grown w x
   unfolding grown
-  grown-fits w' c k f ec ew more =
+  grown_fits w' c k f ec ew more =
       let e : length x.1 - length (store_of w) ≡ k = omega (arith, more) in
       rw (true_fits x.1 f, grown, ec, ew, e)
 
-  pub grown-full : (Fits x.1 → ⊥) → leaves (refused 6) w zeros ≡ grown w x
+  pub grown_full : (Fits x.1 → ⊥) → leaves (refused 6) w zeros ≡ grown w x
   unfolding grown
-  grown-full n = rw (fits_false x.1 n, grown)
+  grown_full n = rw (fits_false x.1 n, grown)
 
 -- ---- the state at the border
 
 module _ (w : List ℕ) (r : ℕ) (go : Left) where
-  pub mark-answered : compacted r ≡ Mark → if_state w r go ≡ leaves (context 0) w zeros
+  pub mark_answered : compacted r ≡ Mark → if_state w r go ≡ leaves (context 0) w zeros
   unfolding if_state
-  mark-answered e = rw (eq-eqb r empty_mark (mark_of_compacted r e), if_state)
+  mark_answered e = rw (eq-eqb r empty_mark (mark_of_compacted r e), if_state)
 
   pub out_of_range : compacted r ≡ OutOfRange → if_state w r go ≡ leaves (refused 5) w zeros
   unfolding if_state
@@ -72,42 +72,42 @@ module _ (w : List ℕ) (r : ℕ) (go : Left) where
 -- ---- one entry on the stack
 
 module _ (w z : List ℕ) (v : Live w z) (p r : ℕ) (hp : p < count w) (hr : r < stop) (y : List ℕ) (e : y ≡ put_entry z 0 p r) where
-  long-enough : 7936 + 2 * 0 + 1 < length z
-  long-enough = omega (arith, v.index.sized)
+  long_enough : 7936 + 2 * 0 + 1 < length z
+  long_enough = omega (arith, v.index.sized)
 
-  put-parent : stack_parent y 0 ≡ p
-  put-parent = rw e (entry-parent z 0 p r long-enough)
+  put_parent : stack_parent y 0 ≡ p
+  put_parent = rw e (entry_parent_lem z 0 p r long_enough)
 
-  put-state : stack_state y 0 ≡ r
-  put-state = rw e (entry-state z 0 p r long-enough)
+  put_state : stack_state y 0 ≡ r
+  put_state = rw e (entry_state_lem z 0 p r long_enough)
 
-  put-length : length y ≡ scratch_words
-  put-length = rw e (entry_length z 0 p r ∙ v.index.sized)
+  put_length : length y ≡ scratch_words
+  put_length = rw e (entry_length z 0 p r ∙ v.index.sized)
 
-  pub single-pushed : Pushed w y 0 1
-  single-pushed = record {
+  pub single_pushed : Pushed w y 0 1
+  single_pushed = record {
     live = record {
       good = v.good;
       words = v.words;
-      index = index_frame (store_of w) z y v.good.fits.0 put-length (λ i l. rw e (entry-below z 0 p r i (omega arith))) v.index;
+      index = index_frame (store_of w) z y v.good.fits.0 put_length (λ i l. rw e (entry_below z 0 p r i (omega arith))) v.index;
     };
     stacked = record {
-      sized = put-length;
+      sized = put_length;
       room = omega arith;
       entries = record {
-        fit = λ j a b. let q : j ≡ 0 = omega arith in rw (q, put-state) (omega arith);
-        older = λ j a b. let q : j ≡ 0 = omega arith in rw (q, put-parent) (rw (live-count v) at hp);
+        fit = λ j a b. let q : j ≡ 0 = omega arith in rw (q, put_state) (omega arith);
+        older = λ j a b. let q : j ≡ 0 = omega arith in rw (q, put_parent) (rw (live_count v) at hp);
         rise = λ j a b. absurd (omega arith);
-        dollar = λ j a b s. let q : j ≡ 0 = omega arith in absurd (omega (arith, sym put-state ∙ ap (stack_state y) (sym q) ∙ s));
+        dollar = λ j a b s. let q : j ≡ 0 = omega arith in absurd (omega (arith, sym put_state ∙ ap (stack_state y) (sym q) ∙ s));
       };
     };
   }
 
-  single-is : stack_node y 0 1 ≡ push r p end
-  single-is = single_node y 0 (record { some = omega arith; not_dollar = λ _. rw put-state hr }) ∙ rw (put-state, put-parent)
+  single_is : stack_node y 0 1 ≡ push r p end
+  single_is = single_node y 0 (record { some = omega arith; not_dollar = λ _. rw put_state hr }) ∙ rw (put_state, put_parent)
 
-  pub single-place : place (store_of w) (over r (tree (store_of w) p) none) ≡ intern (store_of w) (stack_node y 0 1)
-  single-place = place-single (store_of w) v.good.sound r p (rw (live-count v) at hp) ∙ ap (intern (store_of w)) (sym single-is)
+  pub single_place : place (store_of w) (over r (tree (store_of w) p) none) ≡ intern (store_of w) (stack_node y 0 1)
+  single_place = place_single (store_of w) v.good.sound r p (rw (live_count v) at hp) ∙ ap (intern (store_of w)) (sym single_is)
 
 -- ---- what a call that interned leaves
 
@@ -115,14 +115,14 @@ grown_left : (w z : List ℕ) (y x : ℕ × Store) (c k : ℕ) (w' u : List ℕ)
     → leaves_after 0 k (context c) w' zeros ≡ grown w x
 grown_left w z y x c k w' u e g more =
     let o : store_of w' ≡ x.1 = g.store ∙ ap (λ (y : ℕ × Store). y.1) (sym e) in
-    grown-fits w x w' c k (rw (← o) g.live.good.fits) (g.number ∙ ap (λ (y : ℕ × Store). y.0) (sym e)) (g.live.words ∙ ap words_of o) (more ∙ ap length o)
+    grown_fits w x w' c k (rw (← o) g.live.good.fits) (g.number ∙ ap (λ (y : ℕ × Store). y.0) (sym e)) (g.live.words ∙ ap words_of o) (more ∙ ap length o)
 
 pub interned_left : (w z : List ℕ) (place n : ℕ) (x : ℕ × Store) (r : Interned) (w' u : List ℕ) → x ≡ intern (store_of w) (stack_node z place n)
     → Interns w z place n r w' u → numbered (answered r 0) w' zeros ≡ grown w x
 interned_left w z place n x (Found c) w' u e g = grown_left w z _ x c.0 0 w' u e g.0 g.1
 interned_left w z place n x (Made c) w' u e g = grown_left w z _ x c.0 1 w' u e g.0 g.1
 interned_left w z place n x NoRoom w' u e g =
-    ap (λ (y : List ℕ). leaves (refused 6) y zeros) g.1 ∙ grown-full w x (λ f. g.0 (rw e at f))
+    ap (λ (y : List ℕ). leaves (refused 6) y zeros) g.1 ∙ grown_full w x (λ f. g.0 (rw e at f))
 
 pub interned_length : (w z : List ℕ) (place n : ℕ) (r : Interned) (w' u : List ℕ) → length z ≡ scratch_words → Interns w z place n r w' u → length u ≡ scratch_words
 interned_length w z place n (Found c) w' u l g = g.0.live.index.sized
@@ -132,28 +132,28 @@ interned_length w z place n NoRoom w' u l g = ap length g.2 ∙ l
 -- ---- the singleton call, after its first checks
 
 module _ (w z u : List ℕ) (p r : ℕ) (a : Admitted) (v : Admits w z p a u) where
-  pub singleton-refused : (f : Refusal) → a ≡ Refused f → leaves (refused (number f)) w u ≡ singleton_call w z p r
-  singleton-refused f e = sym (singleton_nested w z p r ∙ (rw e at v) (if_state w r (placed_single w p r)))
+  pub singleton_refused : (f : Refusal) → a ≡ Refused f → leaves (refused (number f)) w u ≡ singleton_call w z p r
+  singleton_refused f e = sym (singleton_nested w z p r ∙ (rw e at v) (if_state w r (placed_single w p r)))
 
   module _ (e : a ≡ ready) where
-    pub singleton-ready : Live w u × (p < count w)
-    singleton-ready = let o = rw e at v in (ready_live w u o.0, o.1)
+    pub singleton_ready : Live w u × (p < count w)
+    singleton_ready = let o = rw e at v in (ready_live w u o.0, o.1)
 
     goes : singleton_call w z p r ≡ if_state w r (placed_single w p r)
     goes = singleton_nested w z p r ∙ (rw e at v).2 (if_state w r (placed_single w p r))
 
     -- the scratch that was cleared
     module _ (y : List ℕ) (ey : y ≡ replicate (length u) 0) where
-      zero-again : y ≡ zeros
-      zero-again = ey ∙ cleared u singleton-ready.0.index.sized
+      zero_again : y ≡ zeros
+      zero_again = ey ∙ cleared u singleton_ready.0.index.sized
 
-      pub singleton-mark : compacted r ≡ Mark → leaves (context 0) w y ≡ singleton_call w z p r
-      singleton-mark m = ap (leaves (context 0) w) zero-again ∙ sym (goes ∙ mark-answered w r (placed_single w p r) m)
+      pub singleton_mark : compacted r ≡ Mark → leaves (context 0) w y ≡ singleton_call w z p r
+      singleton_mark m = ap (leaves (context 0) w) zero_again ∙ sym (goes ∙ mark_answered w r (placed_single w p r) m)
 
-      pub singleton-out : compacted r ≡ OutOfRange → leaves (refused 5) w y ≡ singleton_call w z p r
-      singleton-out m = ap (leaves (refused 5) w) zero-again ∙ sym (goes ∙ out_of_range w r (placed_single w p r) m)
+      pub singleton_out : compacted r ≡ OutOfRange → leaves (refused 5) w y ≡ singleton_call w z p r
+      singleton_out m = ap (leaves (refused 5) w) zero_again ∙ sym (goes ∙ out_of_range w r (placed_single w p r) m)
 
-    pub singleton-placed : (c : CompactState) → compacted r ≡ State c → (x : Left) → x ≡ placed_single w p c.0 → x ≡ singleton_call w z p r
-    singleton-placed c m x e =
+    pub singleton_placed : (c : CompactState) → compacted r ≡ State c → (x : Left) → x ≡ placed_single w p c.0 → x ≡ singleton_call w z p r
+    singleton_placed c m x e =
         let o = placed w r (placed_single w p r) c m in
         e ∙ ap (placed_single w p) o.0 ∙ sym (goes ∙ o.2)

@@ -9,7 +9,7 @@ use Rattle.arena.specs.Room.{room, pool}
 use Rattle.layout.specs.Layout.{stop}
 use Rattle.layout.specs.Scratch.{stack_parent, stack_state}
 use Rattle.layout.specs.Listing.{listing}
-use Rattle.layout.specs.Listing.Laws.{Entries, listing-stop, listing-more, stop_last}
+use Rattle.layout.specs.Listing.Laws.{Entries, listing_stop, listing_more, stop_last}
 use Rattle.layout.specs.Encode.{put_pool, fill, put_record, put_counts, put_node, written}
 use Rattle.index.specs.Records.{Stacked, stack_node}
 use Rattle.index.specs.Walk.{entries_from}
@@ -20,8 +20,8 @@ fill_step : (w : List ℕ) (st pa : ℕ → ℕ) (q i k c : ℕ) → Entries st 
 unfolding fill listing
 fill_step w st pa q i k c v =
     two (st i) stop
-    (λ e. rw (listing-stop st pa i k e, stop_last st pa i k c v e, v.dollar i (omega arith) (omega arith) e, e))
-    (λ n. rw (listing-more st pa i k n))
+    (λ e. rw (listing_stop st pa i k e, stop_last st pa i k c v e, v.dollar i (omega arith) (omega arith) e, e))
+    (λ n. rw (listing_more st pa i k n))
 
 -- entry i of n goes into the pool, and then those from i + 1 on
 pub fill_turn : (w z : List ℕ) (q at n c i : ℕ) → Stacked z at n c → i < n

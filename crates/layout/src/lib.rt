@@ -1,4 +1,6 @@
 // The words of a store: where each stands, read and written by name. All of it is internal: callers see to the lengths.
+#![tactic(auto)]
+
 mod places;
 mod reads;
 mod writes;

@@ -1,4 +1,6 @@
 // Replies as lines of bytes, laid in a lent buffer.
+#![tactic(auto)]
+
 mod ends;
 pub mod inner;
 

@@ -1,4 +1,6 @@
 // Doors for measuring only: leaves of `words`, called from rust/bench beside their Rust twins.
+#![tactic(auto)]
+
 ghost use Rattle.std.specs.Prelude.{◌≤◌, length, replicate, ◌≡◌};
 ghost use Rattle.words.specs.Hash.{hash_of, mixed};
 ghost use Rattle.words.specs.Lent.{all_zero, copied_range};

@@ -10,17 +10,17 @@ use Rattle.layout.specs.Decode.{store_of}
 use Rattle.index.specs.Grow.{index_frame}
 use Rattle.interning.specs.Live.{Live}
 use Rattle.work.specs.Counted.{most_merges, State, standing, Outcome, done, refused, and_then, completed, made, begins, recall, counted}
-use Rattle.work.specs.Equations.{merge_equal, merge-hit, merge-refused, merge_counts, swallowed-left, swallowed-right, walked as made-walked}
+use Rattle.work.specs.Equations.{merge_equal, merge_hit, merge_refused, merge_counts, swallowed_left, swallowed_right, walked as made-walked}
 use Rattle.work.specs.Served.{begins_good, made_after}
 use Rattle.work.specs.Depth.{counted_serves}
 use Rattle.arena.specs.Place.{merge_s}
-use Rattle.arena.specs.Steps.{merge-holds}
+use Rattle.arena.specs.Steps.{merge_holds}
 use Rattle.work.specs.After.{Good}
 use Rattle.words.specs.Refusals.{number}
 use Rattle.words.specs.declared.names.ContextId.{ContextId}
 use Rattle.words.specs.declared.refusals.Refusal.{Refusal}
 use Rattle.cache.specs.Cache.{CacheSound, Asked, Remembered, Counts, kept_of, merges_counted}
-use Rattle.cache.specs.Frames.{counted-sound, counted-kept, counted-merges}
+use Rattle.cache.specs.Frames.{counted_sound, counted_kept, counted_merges}
 use Rattle.cache.specs.Recalled.{recalled}
 use Rattle.cache.specs.declared.lookup.Recall.{Recall}
 use Rattle.cache.specs.declared.lookup.Recall.TheVariants.{As, Unknown}
@@ -39,7 +39,7 @@ walked_known m w z a b top f n c w₂ z₂ g =
     let e : made m (counted m) t a b ≡ done c (state_of w₂ z₂) = made-walked (counted m) t a b m n ∙ g.is in
     let went = made_after m (a + b) (counted m) (counted_serves m (a + b)) t a b v.good v.left v.right (omega arith) in
     let is : merge_s m (store_of w) a b ≡ (c, store_of w₂) = (rw e at went).is in
-    rw is at (merge-holds m (store_of w) v.live.good.sound a b v.left v.right).known
+    rw is at (merge_holds m (store_of w) v.live.good.sound a b v.left v.right).known
 
 module _ {w z : List ℕ} {a b top : ℕ} (v : Mergeable w z a b top) where
   pub asked : Asked z a b
@@ -54,12 +54,12 @@ module _ {w z : List ℕ} {a b top : ℕ} (v : Mergeable w z a b top) where
   stayed : (o : Outcome ℕ) (c : ℕ) → o ≡ done c (state_of w z) → Reached z top o c w z
   stayed o c e = record { is = e; live = v.live; cache = v.cache; between = λ _ _ _. refl }
 
-  pub equal-sides : (m : Bool) → a ≡ b → Reached z top (counted m (state_of w z) a b) a w z
-  equal-sides m e = stayed _ a (merge_equal m (state_of w z) a b v.good v.left v.right e)
+  pub equal_sides : (m : Bool) → a ≡ b → Reached z top (counted m (state_of w z) a b) a w z
+  equal_sides m e = stayed _ a (merge_equal m (state_of w z) a b v.good v.left v.right e)
 
   module _ (differ : a ≡ b → ⊥) (m : Bool) (r : Recall) (looked : recalled r ≡ recall m (min a b) (max a b) (kept_of z)) where
     pub hit : (c : ContextId) → r ≡ As c → Reached z top (counted m (state_of w z) a b) c.0 w z
-    hit c e = stayed _ c.0 (merge-hit m (state_of w z) a b v.good v.left v.right differ c.0 (sym looked ∙ ap recalled e))
+    hit c e = stayed _ c.0 (merge_hit m (state_of w z) a b v.good v.left v.right differ c.0 (sym looked ∙ ap recalled e))
 
     module _ (e : r ≡ Unknown) where
       missed : recall m (min a b) (max a b) (kept_of z) ≡ nowhere
@@ -67,7 +67,7 @@ module _ {w z : List ℕ} {a b top : ℕ} (v : Mergeable w z a b top) where
 
       pub too_much_lem : (u : List ℕ) → Counts z false u → (counted m (state_of w z) a b ≡ refused 12) × Stuck w w u
       too_much_lem u k = (
-        merge-refused m (state_of w z) a b v.good v.left v.right differ missed (omega (arith, k.0, v.good.within)),
+        merge_refused m (state_of w z) a b v.good v.left v.right differ missed (omega (arith, k.0, v.good.within)),
         record {
           grew = grew_refl (store_of w);
           good = v.live.good;
@@ -82,19 +82,19 @@ module _ {w z : List ℕ} {a b top : ℕ} (v : Mergeable w z a b top) where
         unfolding begins
         begun =
             let n = suc (merges_counted z) in
-            rw (k.1, counted-kept z n v.cache, counted-merges z n (omega (arith, v.live.index.sized)))
+            rw (k.1, counted_kept z n v.cache, counted_merges z n (omega (arith, v.live.index.sized)))
 
-        count-only : (i : ℕ) → i < 16337 → get_or z₁ i 0 ≡ get_or z i 0
-        count-only i h = let o : i ≡ 16337 → ⊥ = λ q. omega arith in rw (k.1, get_or-set_other)
+        count_only : (i : ℕ) → i < 16337 → get_or z₁ i 0 ≡ get_or z i 0
+        count_only i h = let o : i ≡ 16337 → ⊥ = λ q. omega arith in rw (k.1, get_or-set_other)
 
         sized₁ : length z₁ ≡ scratch_words
         sized₁ = rw k.1 (simp length-set v.live.index.sized)
 
-        pub counted-apart : Apart w z₁ a b top
-        counted-apart = record {
+        pub counted_apart : Apart w z₁ a b top
+        counted_apart = record {
           sides = record {
-            live = index_kept w z z₁ sized₁ (λ i h. count-only i (omega arith)) v.live;
-            cache = rw k.1 (counted-sound z (suc (merges_counted z)) v.cache);
+            live = index_kept w z z₁ sized₁ (λ i h. count_only i (omega arith)) v.live;
+            cache = rw k.1 (counted_sound z (suc (merges_counted z)) v.cache);
             good = rw begun (begins_good (state_of w z) v.good k.0).good;
             left = v.left;
             right = v.right;
@@ -120,31 +120,31 @@ module _ {w z : List ℕ} {a b top : ℕ} (v : Mergeable w z a b top) where
           live = index_kept w₂ z₂ u (r.sized ∙ l.index.sized) (λ i h. r.others i (λ p _. omega arith) (omega arith)) l;
           cache = r.sound;
           between = λ i p q.
-              r.others i (λ _ x. omega arith) (omega (arith, v.room)) ∙ same i p q ∙ count-only i (omega (arith, v.room));
+              r.others i (λ _ x. omega arith) (omega (arith, v.room)) ∙ same i p q ∙ count_only i (omega (arith, v.room));
         }
 
         pub swallowed : Swallows m a b true → (u : List ℕ) → Remembered z₁ m a b 0 u → Reached z top (counted m (state_of w z) a b) 0 w u
         swallowed s u r =
-            completes 0 w z₁ zero counted-apart.sides.live (λ _ _ _. refl) u r
+            completes 0 w z₁ zero counted_apart.sides.live (λ _ _ _. refl) u r
           where
             zero : made m (counted m) (state_of w z₁) a b ≡ done 0 (state_of w z₁)
             zero =
                 rw s.0
-                (⊎_elim (swallowed-left (counted true) (state_of w z₁) a b) (swallowed-right (counted true) (state_of w z₁) a b) s.1)
+                (⊎_elim (swallowed_left (counted true) (state_of w z₁) a b) (swallowed_right (counted true) (state_of w z₁) a b) s.1)
 
         module _ (n : Swallows m a b false) where
-          is-walked : made m (counted m) (state_of w z₁) a b ≡ walked m (state_of w z₁) a b
-          is-walked = made-walked (counted m) (state_of w z₁) a b m n
+          is_walked : made m (counted m) (state_of w z₁) a b ≡ walked m (state_of w z₁) a b
+          is_walked = made-walked (counted m) (state_of w z₁) a b m n
 
-          pub merged-few : (c : ℕ) (w₂ z₂ : List ℕ) → Reached z₁ top (walked m (state_of w z₁) a b) c w₂ z₂ → c < most_contexts
-          merged-few c w₂ z₂ g =
-              omega (arith, walked_known m w z₁ a b top counted-apart n c w₂ z₂ g, g.live.good.fits.0)
+          pub merged_few : (c : ℕ) (w₂ z₂ : List ℕ) → Reached z₁ top (walked m (state_of w z₁) a b) c w₂ z₂ → c < most_contexts
+          merged_few c w₂ z₂ g =
+              omega (arith, walked_known m w z₁ a b top counted_apart n c w₂ z₂ g, g.live.good.fits.0)
 
           pub remembered : (c : ℕ) (w₂ z₂ : List ℕ) → Reached z₁ top (walked m (state_of w z₁) a b) c w₂ z₂ → (u : List ℕ) → Remembered z₂ m a b c u
               → Reached z top (counted m (state_of w z) a b) c w₂ u
-          remembered c w₂ z₂ g u r = completes c w₂ z₂ (is-walked ∙ g.is) g.live g.between u r
+          remembered c w₂ z₂ g u r = completes c w₂ z₂ (is_walked ∙ g.is) g.live g.between u r
 
-          pub refused-inside : (f : Refusal) (w₂ z₂ : List ℕ) → (walked m (state_of w z₁) a b ≡ refused (number f)) × Stuck w w₂ z₂
+          pub refused_inside : (f : Refusal) (w₂ z₂ : List ℕ) → (walked m (state_of w z₁) a b ≡ refused (number f)) × Stuck w w₂ z₂
               → (counted m (state_of w z) a b ≡ refused (number f)) × Stuck w w₂ z₂
           unfolding and_then
-          refused-inside f w₂ z₂ g = (goes_on ∙ ap (λ (o : Outcome ℕ). and_then ℕ ℕ o (completed m a b)) (is-walked ∙ g.0), g.1)
+          refused_inside f w₂ z₂ g = (goes_on ∙ ap (λ (o : Outcome ℕ). and_then ℕ ℕ o (completed m a b)) (is_walked ∙ g.0), g.1)

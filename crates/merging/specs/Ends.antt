@@ -4,7 +4,7 @@ use Rattle.std.specs.Prelude.{◌≡◌, refl, [], ◌∷◌, ◌++◌, ℕ, suc
 use Rattle.std.proofs.Common.{ap, ◌∙◌, arith, length-append}
 use Rattle.cases.specs.Numbers.{two}
 use Rattle.arena.specs.Store.{Store, node_at}
-use Rattle.arena.specs.Trees.{node-old}
+use Rattle.arena.specs.Trees.{node_old}
 use Rattle.arena.specs.Placed.{Grew}
 use Rattle.arena.specs.Room.{room, pool}
 use Rattle.index.specs.Older.{older, older_all, older_part, older_next}
@@ -57,7 +57,7 @@ ends_grew s u g c h = rw g.1 (ends_more g.0 s c h)
 
 node_more : (k s : Store) (c : ℕ) → c < length s → node_at (k ++ s) c ≡ node_at s c
 node_more [] s c h = refl
-node_more (n ∷ k) s c h = node-old n (k ++ s) c (omega (arith, length-append k s)) ∙ node_more k s c h
+node_more (n ∷ k) s c h = node_old n (k ++ s) c (omega (arith, length-append k s)) ∙ node_more k s c h
 
 pub grew_node_at : (s u : Store) → Grew s u → (c : ℕ) → c < length s → node_at u c ≡ node_at s c
 grew_node_at s u g c h = rw g.1 (node_more g.0 s c h)

@@ -9,7 +9,7 @@ use Rattle.layout.specs.Decode.{store_of}
 use Rattle.layout.specs.Encode.{words_of}
 use Rattle.encoding.specs.Good.{GoodStore}
 use Rattle.encoding.specs.Written.{words_length}
-use Rattle.interning.specs.Live.{Live, live-length}
+use Rattle.interning.specs.Live.{Live, live_length}
 use Rattle.interning.specs.Interned.{More}
 use Rattle.work.specs.Counted.{State, standing, Outcome, done, refused, and_then, walk, interned, counted}
 use Rattle.work.specs.After.{Good}
@@ -94,5 +94,5 @@ state_moved w z u s v = rw (kept_same z u s.inside (s.after 16336 (omega arith))
 -- whatever the answer, lengths are kept
 pub ended_lengths : {w z : List ℕ} {a b top : ℕ} → Mergeable w z a b top → (o : Outcome ℕ) (r : Numbered) (v u : List ℕ) → Ended w z top o r v u
     → (length v ≡ store_words) × (length u ≡ scratch_words)
-ended_lengths m o (Number c k) v u g = (live-length g.0.live, g.0.live.index.sized)
+ended_lengths m o (Number c k) v u g = (live_length g.0.live, g.0.live.index.sized)
 ended_lengths m o (Refused f) v u g = (ap length g.1.words ∙ words_length (store_of v), g.1.sized)

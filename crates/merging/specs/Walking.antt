@@ -23,13 +23,13 @@ use Rattle.interning.specs.Live.{Live}
 use Rattle.interning.specs.Interned.{More, answered}
 use Rattle.work.specs.Counted.{State, standing, Outcome, done, refused, and_then, walk, interned, counted}
 use Rattle.work.specs.Equations.{onward, onward_same, onward_onward, walk_end, merge_equal}
-use Rattle.work.specs.Exchange.{counted_even, walk-even}
-use Rattle.work.specs.Heads.{head_state, head_parent, cons, tail, Heads, head-less, head-equal, head-refused}
+use Rattle.work.specs.Exchange.{counted_even, walk_even}
+use Rattle.work.specs.Heads.{head_state, head_parent, cons, tail, Heads, head_less, head_equal, head_refused}
 use Rattle.work.specs.After.{Good}
 use Rattle.cache.specs.Cache.{CacheSound, kept_of, merges_counted}
-use Rattle.cache.specs.Frames.{cache-frame}
+use Rattle.cache.specs.Frames.{cache_frame}
 use Rattle.entries.specs.EntriesFrom.{rest, rest_next, rest_size, rest_none, size_full, rest_rise, rest_below, head_rises, head_most, head_older, head_dollar}
-use Rattle.entries.specs.StackEntry.{SameStack, Under, under_le, moved-entries, moved-under, moved-onto}
+use Rattle.entries.specs.StackEntry.{SameStack, Under, under_le, moved_entries, moved_under, moved_onto}
 use Rattle.entries.specs.Laying.{Stacks, ahead, SameBelow, Next, Laid, lay}
 use Rattle.entries.specs.Rest.{Extended, Extends}
 use Rattle.merging.specs.Standing.{state_of, SameCache, state_moved, Reached, Stuck, Ended}
@@ -68,9 +68,9 @@ exchanged {m} {t₀} {n₀} {k₀} {top} {z₀} {w} {z} {i} {j} {n} v = record {
   under_left = v.under_right;
   under_right = v.under_left;
   going =
-      walk-even (counted m) (counted_even m) t₀ k₀ n₀
+      walk_even (counted m) (counted_even m) t₀ k₀ n₀
       ∙ v.going
-      ∙ ap (onward (ahead z top n)) (walk-even (counted m) (counted_even m) (state_of w z) (rest n₀ i) (rest k₀ j));
+      ∙ ap (onward (ahead z top n)) (walk_even (counted m) (counted_even m) (state_of w z) (rest n₀ i) (rest k₀ j));
 }
 
 pub walking_start : (m : Bool) (w z : List ℕ) (n k : Node) (top : ℕ) → Live w z → CacheSound z → Good (state_of w z)
@@ -105,25 +105,25 @@ laid_cache g = record { inside = λ i a b. g.same i (omega arith); after = g.hig
 module _ {m : Bool} {t₀ : State} {n₀ k₀ : Node} {top : ℕ} {z₀ w z : List ℕ} {i j n : ℕ} (sn : Sorted t₀.store n₀) (sk : Sorted t₀.store k₀)
     (v : Walking m t₀ n₀ k₀ top z₀ w z i j n) where
   -- one side's rest, as it is now
-  abbrev now-sorted : Node → Type 0
-  now-sorted x = Rise 0 (length (store_of w)) x × NodeBelow stop x
+  abbrev now_sorted : Node → Type 0
+  now_sorted x = Rise 0 (length (store_of w)) x × NodeBelow stop x
 
-  side : (x : Node) → Sorted t₀.store x → (e : ℕ) → now-sorted (rest x e)
+  side : (x : Node) → Sorted t₀.store x → (e : ℕ) → now_sorted (rest x e)
   side x s e = (
     rest_rise x e 0 (length (store_of w)) (rise_le 0 (length t₀.store) (length (store_of w)) x (grew_length t₀.store (store_of w) v.grew) s.rise),
     rest_below x e stop s.below,
   )
 
   -- its next head is above the one that is taken
-  next-above : (x : Node) → Sorted t₀.store x → (e : ℕ) → suc e < size x → head_state (rest x e) < head_state (rest x (suc e))
-  next-above x s e h =
+  next_above : (x : Node) → Sorted t₀.store x → (e : ℕ) → suc e < size x → head_state (rest x e) < head_state (rest x (suc e))
+  next_above x s e h =
       rw (rest_next x e) at (head_rises (rest x e) 0 (length (store_of w)) (side x s e).0 (side x s e).1
       (rw (rest_next x e) (size_full (rest x (suc e)) (rw (rest_size x (suc e)) (omega arith)))))
 
   -- a head can follow what is on the stack
-  head-next : (x : Node) → Sorted t₀.store x → (e : ℕ) → Under z top n (head_state (rest x e)) → top + n < 4200
+  head_next : (x : Node) → Sorted t₀.store x → (e : ℕ) → Under z top n (head_state (rest x e)) → top + n < 4200
       → Next (store_of w) z top n (head_parent (rest x e)) (head_state (rest x e))
-  head-next x s e u r = record {
+  head_next x s e u r = record {
     room = r;
     most = head_most (rest x e) (side x s e).1;
     older = head_older (rest x e) 0 (length (store_of w)) v.live.good.some (side x s e).0;
@@ -148,22 +148,22 @@ module _ {m : Bool} {t₀ : State} {n₀ k₀ : Node} {top : ℕ} {z₀ w z : Li
     take_left h y ey =
         let r = head_state (rest n₀ i) in
         let p = head_parent (rest n₀ i) in
-        let g : Laid w z top n p r y = lay w z top n p r v.live v.entries (head-next n₀ sn i (v.under_left hi) room) y ey in
+        let g : Laid w z top n p r y = lay w z top n p r v.live v.entries (head_next n₀ sn i (v.under_left hi) room) y ey in
         let t : state_of w y ≡ state_of w z = state_moved w z y (laid_cache g) v.cache in
         let X = walk (counted m) (state_of w z) (rest n₀ (suc i)) (rest k₀ j) in
         record {
           live = g.live;
-          cache = cache-frame z y (laid_cache g).inside ((laid_cache g).after 16336 (omega arith)) v.cache;
+          cache = cache_frame z y (laid_cache g).inside ((laid_cache g).after 16336 (omega arith)) v.cache;
           good = rw t v.good;
           grew = v.grew;
           between = λ e a b. g.same e (omega arith) ∙ v.between e a b;
           few = omega (arith, v.few);
           entries = g.entries;
-          under_left = λ q. g.under _ (under_le z top n _ _ (omega (arith, next-above n₀ sn i q)) (v.under_left hi)) (next-above n₀ sn i q);
+          under_left = λ q. g.under _ (under_le z top n _ _ (omega (arith, next_above n₀ sn i q)) (v.under_left hi)) (next_above n₀ sn i q);
           under_right = λ q. g.under _ (v.under_right hj) h;
           going =
               v.going
-              ∙ ap (onward (ahead z top n)) (head-less (counted m) (state_of w z) (rest n₀ i) (rest k₀ j) heads h ∙ rw (rest_next n₀ i))
+              ∙ ap (onward (ahead z top n)) (head_less (counted m) (state_of w z) (rest n₀ i) (rest k₀ j) heads h ∙ rw (rest_next n₀ i))
               ∙ onward_onward (ahead z top n) (cons r p) X
               ∙ onward_same _ (ahead y top (suc n)) X (λ x. sym (g.onward x))
               ∙ ap (λ (s : State). onward (ahead y top (suc n)) (walk (counted m) s (rest n₀ (suc i)) (rest k₀ j))) (sym t);
@@ -177,24 +177,24 @@ module _ {m : Bool} {t₀ : State} {n₀ k₀ : Node} {top : ℕ} {z₀ w z : Li
       pub no_inner : (f : ℕ) → counted m (state_of w z) (head_parent (rest n₀ i)) (head_parent (rest k₀ j)) ≡ refused f → walk (counted m) t₀ n₀ k₀ ≡ refused f
       unfolding onward and_then
       no_inner f e =
-          v.going ∙ ap (onward (ahead z top n)) (head-refused (counted m) (state_of w z) nothing (rest n₀ i) (rest k₀ j) heads same f e)
+          v.going ∙ ap (onward (ahead z top n)) (head_refused (counted m) (state_of w z) nothing (rest n₀ i) (rest k₀ j) heads same f e)
 
       -- both heads are taken: what stands beneath them has been merged to c
-      pub take-both : (c : ℕ) (w₁ z₁ : List ℕ)
+      pub take_both : (c : ℕ) (w₁ z₁ : List ℕ)
           → Reached z (top + n) (counted m (state_of w z) (head_parent (rest n₀ i)) (head_parent (rest k₀ j))) c w₁ z₁
           → Good (state_of w₁ z₁) → Grew (store_of w) (store_of w₁) → c < length (store_of w₁)
           → (y : List ℕ) → y ≡ put_entry z₁ (top + n) c (head_state (rest n₀ i))
           → Walking m t₀ n₀ k₀ top z₀ w₁ y (suc i) (suc j) (suc n)
-      take-both c w₁ z₁ q good₁ grew₁ known y ey =
+      take_both c w₁ z₁ q good₁ grew₁ known y ey =
           let r = head_state (rest n₀ i) in
-          let under₁ : Under z₁ top n r = moved-under z z₁ top n q.between r (v.under_left hi) in
+          let under₁ : Under z₁ top n r = moved_under z z₁ top n q.between r (v.under_left hi) in
           let entries₁ : Stacks (store_of w₁) z₁ top n =
-          moved-entries z z₁ top n q.between (length (store_of w)) (length (store_of w₁)) (grew_length (store_of w) (store_of w₁) grew₁) v.entries in
+          moved_entries z z₁ top n q.between (length (store_of w)) (length (store_of w₁)) (grew_length (store_of w) (store_of w₁) grew₁) v.entries in
           let next : Next (store_of w₁) z₁ top n c r = record {
             room = room;
             most = head_most (rest n₀ i) (side n₀ sn i).1;
             older = known;
-            dollar = both-dollar;
+            dollar = both_dollar;
             under = under₁;
           } in
           let g : Laid w₁ z₁ top n c r y = lay w₁ z₁ top n c r q.live entries₁ next y ey in
@@ -202,26 +202,26 @@ module _ {m : Bool} {t₀ : State} {n₀ k₀ : Node} {top : ℕ} {z₀ w z : Li
           let X = walk (counted m) (state_of w₁ z₁) (rest n₀ (suc i)) (rest k₀ (suc j)) in
           record {
             live = g.live;
-            cache = cache-frame z₁ y (laid_cache g).inside ((laid_cache g).after 16336 (omega arith)) q.cache;
+            cache = cache_frame z₁ y (laid_cache g).inside ((laid_cache g).after 16336 (omega arith)) q.cache;
             good = rw t good₁;
             grew = grew_trans t₀.store (store_of w) (store_of w₁) v.grew grew₁;
             between = λ e a b. g.same e (omega arith) ∙ q.between e a (omega arith) ∙ v.between e a b;
             few = omega (arith, v.few);
             entries = g.entries;
-            under_left = λ o. g.under _ (under_le z₁ top n _ _ (omega (arith, next-above n₀ sn i o)) under₁) (next-above n₀ sn i o);
-            under_right = λ o. g.under _ (under_le z₁ top n _ _ (omega (arith, next-above k₀ sk j o, same)) under₁) (rw same (next-above k₀ sk j o));
+            under_left = λ o. g.under _ (under_le z₁ top n _ _ (omega (arith, next_above n₀ sn i o)) under₁) (next_above n₀ sn i o);
+            under_right = λ o. g.under _ (under_le z₁ top n _ _ (omega (arith, next_above k₀ sk j o, same)) under₁) (rw same (next_above k₀ sk j o));
             going =
                 v.going
                 ∙ ap (onward (ahead z top n))
-                (head-equal (counted m) (state_of w z) nothing (rest n₀ i) (rest k₀ j) heads same c (state_of w₁ z₁) q.is
+                (head_equal (counted m) (state_of w z) nothing (rest n₀ i) (rest k₀ j) heads same c (state_of w₁ z₁) q.is
                 ∙ rw (rest_next n₀ i, rest_next k₀ j))
                 ∙ onward_onward (ahead z top n) (cons r c) X
-                ∙ onward_same _ (ahead y top (suc n)) X (λ x. sym (g.onward x ∙ moved-onto z z₁ top n q.between (cons r c x)))
+                ∙ onward_same _ (ahead y top (suc n)) X (λ x. sym (g.onward x ∙ moved_onto z z₁ top n q.between (cons r c x)))
                 ∙ ap (λ (s : State). onward (ahead y top (suc n)) (walk (counted m) s (rest n₀ (suc i)) (rest k₀ (suc j)))) (sym t);
           }
         where
-          both-dollar : head_state (rest n₀ i) ≡ stop → c ≡ 0
-          both-dollar d =
+          both_dollar : head_state (rest n₀ i) ≡ stop → c ≡ 0
+          both_dollar d =
               let a : head_parent (rest n₀ i) ≡ 0 = head_dollar (rest n₀ i) (side n₀ sn i).1 d in
               let b : head_parent (rest k₀ j) ≡ 0 = head_dollar (rest k₀ j) (side k₀ sk j).1 (sym same ∙ d) in
               let e : ◌≡◌ {A = Outcome ℕ} (done 0 (state_of w z)) (done c (state_of w₁ z₁)) =
@@ -231,9 +231,9 @@ module _ {m : Bool} {t₀ : State} {n₀ k₀ : Node} {top : ℕ} {z₀ w z : Li
 
   -- ---- the right side is at its end: the rest of the left follows. For the other end exchange the sides
 
-  pub right-done : size k₀ ≤ j → and_then Node ℕ (walk (counted m) t₀ n₀ k₀) interned ≡ interned (ahead z top n (rest n₀ i)) (state_of w z)
+  pub right_done : size k₀ ≤ j → and_then Node ℕ (walk (counted m) t₀ n₀ k₀) interned ≡ interned (ahead z top n (rest n₀ i)) (state_of w z)
   unfolding onward and_then
-  right-done h =
+  right_done h =
       ap (λ (o : Outcome Node). and_then Node ℕ o interned)
       (v.going ∙ ap (onward (ahead z top n)) (ap (walk (counted m) (state_of w z) (rest n₀ i)) (rest_none k₀ j h) ∙ walk_end (counted m) (state_of w z) (rest n₀ i)))
 
@@ -257,7 +257,7 @@ module _ (w₀ z₀ w z : List ℕ) (top k : ℕ) (x : Node) (grew : Grew (store
             ∙ ap (λ (q : Store). done d (standing q kept counts)) (sym g.store)
             ∙ ap (done d) (sym (state_moved w' z u s v));
         live = g.live;
-        cache = cache-frame z u s.inside (s.after 16336 (omega arith)) v;
+        cache = cache_frame z u s.inside (s.after 16336 (omega arith)) v;
         between = λ i a b. g.same i (omega arith) b ∙ between i a b;
       }
 

@@ -1,4 +1,6 @@
 // The cycle of merges. All of it is internal.
+#![tactic(auto)]
+
 mod cycle;
 
 pub use cycle::merge;

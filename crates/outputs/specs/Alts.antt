@@ -14,27 +14,27 @@ use Rattle.cases.specs.Bools.{bool?, bool_iff, both_true, and_left, and_right}
 use Rattle.sets.specs.Words.{configs_in}
 use Rattle.sets.specs.Listed.{configs_length}
 use Rattle.groups.specs.Lists.{Any, In, which}
-use Rattle.groups.specs.Lists.Tests.{any-exact}
+use Rattle.groups.specs.Lists.Tests.{any_exact}
 use Rattle.groups.specs.Groups.{insert, rising, alts_of, subset}
 use Rattle.groups.specs.Answers.{many, conflicting_alts}
 use Rattle.groups.specs.Rising.{insert_most, alts_rise, alts_most}
 use Rattle.groups.specs.Rules.{Beside}
-use Rattle.groups.specs.Parts.{which-both}
-use Rattle.groups.specs.Last.{last-yes, last-no, alts_last}
+use Rattle.groups.specs.Parts.{which_both}
+use Rattle.groups.specs.Last.{last_yes, last_no, alts_last}
 use Rattle.groups.specs.Conflicts.{Rival, rival_many, many_rival, many_exact, conflicting_configs}
 use Rattle.grouping.specs.Alike.{alike_of}
-use Rattle.grouping.specs.Places.{place-some}
+use Rattle.grouping.specs.Places.{place_some}
 use Rattle.grouping.specs.Ways.{place_true, true_place}
 use Rattle.grouping.specs.Clash.{configs_of, alt_at}
 use Rattle.grouping.specs.Led.{leaders_at, marks_at, Lent, Led}
 use Rattle.grouping.specs.Marks.{picks, leader_at, mark_at, Markable, Marked}
-use Rattle.grouping.specs.Marks.Laws.{markable, marked_able, mark-tells}
+use Rattle.grouping.specs.Marks.Laws.{markable, marked_able, mark_tells}
 use Rattle.grouping.specs.declared.inner.traits.Alike.TheVariants.{Place}
 use Rattle.grouping.specs.declared.inner.marks.Picks.TheVariants.{Rivals}
 use Rattle.outputs.specs.Outputs.{alts_length, padded, alts_words}
 use Rattle.outputs.specs.Outputs.Laws.{padded_length}
 use Rattle.outputs.specs.Insert.{Row, Inserted}
-use Rattle.outputs.specs.Rows.{padded_over, row, row-inserted}
+use Rattle.outputs.specs.Rows.{padded_over, row, row_inserted}
 
 -- config i is in a subset with two or more alternatives
 abbrev pub conflicts : List ℕ → Config → Bool
@@ -64,24 +64,24 @@ module _ (v : List ℕ) (i : ℕ) (h : i < config_count v) where
   abbrev c : Config
   c = config_at v i
 
-  picked-rival : (any (λ d. alike_of Place c d && picks Rivals c d) (configs_of v) ≡ true) ↔ Rival (configs_of v) c
-  picked-rival =
-      any-exact (λ d. alike_of Place c d && picks Rivals c d) (λ d. Beside c d × (d.alternative ≡ c.alternative → ⊥)) (configs_of v) (λ d. (
+  picked_rival : (any (λ d. alike_of Place c d && picks Rivals c d) (configs_of v) ≡ true) ↔ Rival (configs_of v) c
+  picked_rival =
+      any_exact (λ d. alike_of Place c d && picks Rivals c d) (λ d. Beside c d × (d.alternative ≡ c.alternative → ⊥)) (configs_of v) (λ d. (
         λ e. (place_true c d (and_left _ _ e), eqb-false d.alternative c.alternative (not-true _ (and_right (alike_of Place c d) _ e))),
         λ p. both_true _ _ (true_place c d p.0) (rw (ne_eqb d.alternative c.alternative p.1)),
       ))
 
   there : In c (configs_of v)
-  there = place-some v (λ d. d ≡ c) (config_count v) i h refl
+  there = place_some v (λ d. d ≡ c) (config_count v) i h refl
 
-  conflicts-picked : any (λ d. alike_of Place c d && picks Rivals c d) (configs_of v) ≡ conflicts v c
-  conflicts-picked =
+  conflicts_picked : any (λ d. alike_of Place c d && picks Rivals c d) (configs_of v) ≡ conflicts v c
+  conflicts_picked =
       bool_iff (any (λ d. alike_of Place c d && picks Rivals c d) (configs_of v)) (conflicts v c)
-      (λ e. (many_exact (subset (configs_of v) c)).1 (rival_many (configs_of v) c there (picked-rival.0 e)))
-      (λ e. picked-rival.1 (many_rival (configs_of v) c ((many_exact (subset (configs_of v) c)).0 e)))
+      (λ e. (many_exact (subset (configs_of v) c)).1 (rival_many (configs_of v) c there (picked_rival.0 e)))
+      (λ e. picked_rival.1 (many_rival (configs_of v) c ((many_exact (subset (configs_of v) c)).0 e)))
 
 pub telling : {v z u : List ℕ} → Led v Place (config_count v) z → Marked v Rivals (config_count v) z u → Telling v u
-telling {v} {z} {u} x w = record { able = marked_able (markable x) w; tells = λ i h. mark-tells x w i h ∙ conflicts-picked v i h }
+telling {v} {z} {u} x w = record { able = marked_able (markable x) w; tells = λ i h. mark_tells x w i h ∙ conflicts_picked v i h }
 
 -- ---- the walk
 
@@ -95,11 +95,11 @@ alts_next v m =
     let c = config_at v m in
     let cs = configs_in v m in
     bool? (conflicts v c)
-    (λ e. ap alts_of (last-yes (conflicts v) c e cs) ∙ alts_last (which (conflicts v) cs) c ∙ sym (rw e))
-    (λ e. ap alts_of (last-no (conflicts v) c e cs) ∙ sym (rw e))
+    (λ e. ap alts_of (last_yes (conflicts v) c e cs) ∙ alts_last (which (conflicts v) cs) c ∙ sym (rw e))
+    (λ e. ap alts_of (last_no (conflicts v) c e cs) ∙ sym (rw e))
 
 alts_few : (v : List ℕ) (m : ℕ) → length (alts_to v m) ≤ m
-alts_few v m = omega (arith, alts_most (which (conflicts v) (configs_in v m)), which-both (conflicts v) (configs_in v m), configs_length v m)
+alts_few v m = omega (arith, alts_most (which (conflicts v) (configs_in v m)), which_both (conflicts v) (configs_in v m), configs_length v m)
 
 -- the first m configs are done, n alternatives written
 pub record Writing (v : List ℕ) (m n : ℕ) (o : List ℕ) : Type 0 where
@@ -114,29 +114,29 @@ writing_none v h o e = record { within = omega arith; few = h; words = e; count 
 
 module _ {v : List ℕ} {m n : ℕ} {o : List ℕ} (w : Writing v m n o) (h : m < config_count v) where
   -- the row of the alternatives written
-  writing-row : Row o 1 n (alt_at v m)
-  writing-row =
+  writing_row : Row o 1 n (alt_at v m)
+  writing_row =
       rw w.words (row alts_length (0 ∷ []) (alts_to v m) 1 refl (omega (arith, alts_few v m, w.few)) (alts_rise (which (conflicts v) (configs_in v m))) (alt_at v m)
       (omega (arith, alts_few v m, insert_most (alt_at v m) (alts_to v m), w.few)) n (sym w.count))
 
   -- what an insertion leaves
-  writing-added : (k : ℕ) (u : List ℕ) → Inserted o 1 n (alt_at v m) k u → (k ≡ length (insert (alt_at v m) (alts_to v m))) × (u ≡ padded alts_length (0 ∷ insert (alt_at v m) (alts_to v m)))
-  writing-added k u q =
-      row-inserted alts_length (0 ∷ []) (alts_to v m) 1 refl (omega (arith, alts_few v m, w.few)) (alts_rise (which (conflicts v) (configs_in v m))) (alt_at v m)
+  writing_added : (k : ℕ) (u : List ℕ) → Inserted o 1 n (alt_at v m) k u → (k ≡ length (insert (alt_at v m) (alts_to v m))) × (u ≡ padded alts_length (0 ∷ insert (alt_at v m) (alts_to v m)))
+  writing_added k u q =
+      row_inserted alts_length (0 ∷ []) (alts_to v m) 1 refl (omega (arith, alts_few v m, w.few)) (alts_rise (which (conflicts v) (configs_in v m))) (alt_at v m)
       (omega (arith, alts_few v m, insert_most (alt_at v m) (alts_to v m), w.few)) n (sym w.count) k u (rw w.words at q)
 
-  pub writing-next : (a : ℕ) → a ≡ alt_at v m → (b : Bool) → b ≡ conflicts v (config_at v m) → (k : ℕ) (u : List ℕ) → AddedIf b o 1 n a k u → Writing v (m + 1) k u
+  pub writing_next : (a : ℕ) → a ≡ alt_at v m → (b : Bool) → b ≡ conflicts v (config_at v m) → (k : ℕ) (u : List ℕ) → AddedIf b o 1 n a k u → Writing v (m + 1) k u
   unfolding insert_if
-  writing-next a ea true eb k u q =
-      let r = writing-added k u (rw ea at q) in
+  writing_next a ea true eb k u q =
+      let r = writing_added k u (rw ea at q) in
       let e : alts_to v (suc m) ≡ insert (alt_at v m) (alts_to v m) = alts_next v m ∙ rw (← eb) in
       rw (add-one m) (record { within = h; few = w.few; words = r.1 ∙ ap (λ (l : List ℕ). padded alts_length (0 ∷ l)) (sym e); count = r.0 ∙ ap length (sym e) })
-  writing-next a ea false eb k u q =
+  writing_next a ea false eb k u q =
       let e : alts_to v (suc m) ≡ alts_to v m = alts_next v m ∙ rw (← eb) in
       rw (add-one m) (record { within = h; few = w.few; words = q.1 ∙ w.words ∙ ap (λ (l : List ℕ). padded alts_length (0 ∷ l)) (sym e); count = q.0 ∙ w.count ∙ ap length (sym e) })
 
-  pub writing-asks : (a : ℕ) → a ≡ alt_at v m → Row o 1 n a
-  writing-asks a e = rw e writing-row
+  pub writing_asks : (a : ℕ) → a ≡ alt_at v m → Row o 1 n a
+  writing_asks a e = rw e writing_row
 
 -- the count goes first
 pub writing_end : {v : List ℕ} {m n : ℕ} {o : List ℕ} → Writing v m n o → config_count v ≤ m → set o 0 n ≡ alts_words (configs_of v)

@@ -15,7 +15,7 @@ use Rattle.cases.specs.Bools.{never_both}
 use Rattle.groups.specs.Lists.{All, Rising}
 use Rattle.groups.specs.Lists.Laws.{every_map}
 use Rattle.groups.specs.Groups.{insert}
-use Rattle.groups.specs.Rising.{insert-less, insert-equal, insert-greater}
+use Rattle.groups.specs.Rising.{insert_less, insert_equal, insert_greater}
 use Rattle.outputs.specs.Outputs.{padded}
 
 -- n words from place f on
@@ -94,28 +94,28 @@ low_below a (x ∷ xs) v (suc n) h k =
 -- ---- the seat is that number
 
 module _ (o : List ℕ) (f : ℕ) (n a : ℕ) where
-  pub seat-here : get_or o (f + suc n - 1) 0 ≤ a → seat_of o f (suc n) a ≡ suc n
+  pub seat_here : get_or o (f + suc n - 1) 0 ≤ a → seat_of o f (suc n) a ≡ suc n
   unfolding seat_of
-  seat-here h = rw (le-leb (get_or o (f + suc n - 1) 0) a h, seat_of)
+  seat_here h = rw (le-leb (get_or o (f + suc n - 1) 0) a h, seat_of)
 
-  pub seat-on : a < get_or o (f + suc n - 1) 0 → seat_of o f (suc n) a ≡ seat_of o f n a
+  pub seat_on : a < get_or o (f + suc n - 1) 0 → seat_of o f (suc n) a ≡ seat_of o f n a
   unfolding seat_of
-  seat-on h = rw (lt-leb (get_or o (f + suc n - 1) 0) a h, seat_of)
+  seat_on h = rw (lt-leb (get_or o (f + suc n - 1) 0) a h, seat_of)
 
 -- over the words that hold xs
 module _ (o : List ℕ) (f : ℕ) (xs : List ℕ) (a : ℕ) (v : Rising xs) (held : (i : ℕ) → i < length xs → get_or o (f + i) 0 ≡ get_or xs i 0) where
-  seat-min : (n : ℕ) → n ≤ length xs → seat_of o f n a ≡ min n (below a xs)
+  seat_min : (n : ℕ) → n ≤ length xs → seat_of o f n a ≡ min n (below a xs)
   unfolding seat_of
-  seat-min zero h = omega arith
-  seat-min (suc n) h =
+  seat_min zero h = omega arith
+  seat_min (suc n) h =
       let j : f + suc n - 1 ≡ f + n = omega arith in
       let e : get_or o (f + suc n - 1) 0 ≡ get_or xs n 0 = ap (λ (i : ℕ). get_or o i 0) j ∙ held n h in
       low? (get_or xs n 0) a
-      (λ l. seat-here o f n a (rw e l) ∙ omega (arith, low_below a xs v n h l))
-      (λ l. seat-on o f n a (rw e l) ∙ seat-min n (omega arith) ∙ omega (arith, above_below a xs n h l))
+      (λ l. seat_here o f n a (rw e l) ∙ omega (arith, low_below a xs v n h l))
+      (λ l. seat_on o f n a (rw e l) ∙ seat_min n (omega arith) ∙ omega (arith, above_below a xs n h l))
 
-  pub seat-below : seat_of o f (length xs) a ≡ below a xs
-  seat-below = seat-min (length xs) (omega arith) ∙ omega (arith, below_most a xs)
+  pub seat_below : seat_of o f (length xs) a ≡ below a xs
+  seat_below = seat_min (length xs) (omega arith) ∙ omega (arith, below_most a xs)
 
 -- ---- what insertion comes to
 
@@ -129,12 +129,12 @@ insert_there a (x ∷ xs) v h e =
     let i : below a (x ∷ xs) - 1 ≡ below a xs = omega arith in
     let g : get_or (x ∷ xs) (below a xs) 0 ≡ a = ap (λ (j : ℕ). get_or (x ∷ xs) j 0) (sym i) ∙ e in
     two (below a xs) 0
-    (λ z. insert-equal a x xs (sym (ap (λ (j : ℕ). get_or (x ∷ xs) j 0) (sym z) ∙ g)))
+    (λ z. insert_equal a x xs (sym (ap (λ (j : ℕ). get_or (x ∷ xs) j 0) (sym z) ∙ g)))
     (λ z.
     let s : suc (below a xs - 1) ≡ below a xs = omega arith in
     let k : get_or xs (below a xs - 1) 0 ≡ a = ap (λ (j : ℕ). get_or (x ∷ xs) j 0) s ∙ g in
     let m = every_get_or (λ y. x < y) xs v.0 (below a xs - 1) (omega (arith, below_most a xs)) in
-    insert-greater a x xs (omega arith) ∙ ap (λ (l : List ℕ). x ∷ l) (insert_there a xs v.1 (omega arith) k)))
+    insert_greater a x xs (omega arith) ∙ ap (λ (l : List ℕ). x ∷ l) (insert_there a xs v.1 (omega arith) k)))
     (λ l. absurd (omega (arith, below_out a x xs l)))
 
 none_below : (a : ℕ) (xs : List ℕ) → All (λ x. a < x) xs → below a xs ≡ 0
@@ -156,8 +156,8 @@ insert_new a (x ∷ xs) v n =
     let later : 0 < below a xs → get_or xs (below a xs - 1) 0 ≡ a → ⊥ = λ h e.
     let s : below a xs ≡ suc (below a xs - 1) = omega arith in
     n (omega arith) (ap (λ (j : ℕ). get_or (x ∷ xs) j 0) (i ∙ s) ∙ e) in
-    rw b (insert-greater a x xs (two x a (λ e. absurd (differ e)) (λ d. omega arith)) ∙ ap (λ (l : List ℕ). x ∷ l) (insert_new a xs v.1 later)))
-    (λ l. rw (below_out a x xs l) (insert-less a x xs l))
+    rw b (insert_greater a x xs (two x a (λ e. absurd (differ e)) (λ d. omega arith)) ∙ ap (λ (l : List ℕ). x ∷ l) (insert_new a xs v.1 later)))
+    (λ l. rw (below_out a x xs l) (insert_less a x xs l))
 
 -- ---- the gap
 
@@ -205,61 +205,61 @@ module _ {o : List ℕ} {f n a : ℕ} (r : Row o f n a) where
   abbrev p : ℕ
   p = below a (part o f n)
 
-  xs-length : length xs ≡ n
-  xs-length = length-take n (drop f o) ∙ omega (arith, length-drop f o, r.within)
+  xs_length : length xs ≡ n
+  xs_length = length-take n (drop f o) ∙ omega (arith, length-drop f o, r.within)
 
   front_length : length (take f o) ≡ f
   front_length = length-take-le f o (omega (arith, r.within))
 
   held : (i : ℕ) → i < length xs → get_or o (f + i) 0 ≡ get_or xs i 0
-  held i h = sym (get_or-take n (drop f o) i 0 (omega (arith, xs-length)) ∙ get_or-drop f o i 0)
+  held i h = sym (get_or-take n (drop f o) i 0 (omega (arith, xs_length)) ∙ get_or-drop f o i 0)
 
   -- the seat that the code finds
-  pub row-seat : seat_of o f n a ≡ p
-  row-seat = ap (λ (m : ℕ). seat_of o f m a) (sym xs-length) ∙ seat-below o f xs a r.rises held
+  pub row_seat : seat_of o f n a ≡ p
+  row_seat = ap (λ (m : ℕ). seat_of o f m a) (sym xs_length) ∙ seat_below o f xs a r.rises held
 
-  pub seat-most : p ≤ n
-  seat-most = omega (arith, below_most a xs, xs-length)
+  pub seat_most : p ≤ n
+  seat_most = omega (arith, below_most a xs, xs_length)
 
-  last-held : 0 < p → get_or o (f + p - 1) 0 ≡ get_or xs (p - 1) 0
-  last-held h = let e : f + p - 1 ≡ f + (p - 1) = omega arith in ap (λ (i : ℕ). get_or o i 0) e ∙ held (p - 1) (omega (arith, seat-most, xs-length))
+  last_held : 0 < p → get_or o (f + p - 1) 0 ≡ get_or xs (p - 1) 0
+  last_held h = let e : f + p - 1 ≡ f + (p - 1) = omega arith in ap (λ (i : ℕ). get_or o i 0) e ∙ held (p - 1) (omega (arith, seat_most, xs_length))
 
   -- it is there already
   module _ (h : 0 < p) (e : get_or o (f + p - 1) 0 ≡ a) where
     there : insert a xs ≡ xs
-    there = insert_there a xs r.rises h (sym (last-held h) ∙ e)
+    there = insert_there a xs r.rises h (sym (last_held h) ∙ e)
 
-    pub row-there : (n ≡ length (insert a xs)) × (o ≡ row_with o f (insert a xs))
-    row-there = (sym (ap length there ∙ xs-length), r.rest ∙ ap (row_with o f) (sym there))
+    pub row_there : (n ≡ length (insert a xs)) × (o ≡ row_with o f (insert a xs))
+    row_there = (sym (ap length there ∙ xs_length), r.rest ∙ ap (row_with o f) (sym there))
 
   -- it is not
   module _ (d : 0 < p → get_or o (f + p - 1) 0 ≡ a → ⊥) where
     new : insert a xs ≡ take p xs ++ (a ∷ drop p xs)
-    new = insert_new a xs r.rises (λ h e. d h (last-held h ∙ e))
+    new = insert_new a xs r.rises (λ h e. d h (last_held h ∙ e))
 
     one_more : length (insert a xs) ≡ n + 1
     one_more =
         ap length new ∙ length-append (take p xs) (a ∷ drop p xs)
-        ∙ omega (arith, length-take-le p xs (omega (arith, seat-most, xs-length)), length-drop p xs, seat-most, xs-length)
+        ∙ omega (arith, length-take-le p xs (omega (arith, seat_most, xs_length)), length-drop p xs, seat_most, xs_length)
 
     pub row_room : f + p + (n - p) < length o
-    row_room = omega (arith, r.room, one_more, seat-most)
+    row_room = omega (arith, r.room, one_more, seat_most)
 
     abbrev zs : List ℕ
     zs = blank (length o - (f + n + 1))
 
-    zeros-left : blank (length o - length (take f o ++ xs)) ≡ 0 ∷ zs
+    zeros_left : blank (length o - length (take f o ++ xs)) ≡ 0 ∷ zs
     unfolding blank
-    zeros-left =
+    zeros_left =
         let e : length o - length (take f o ++ xs) ≡ suc (length o - (f + n + 1)) =
-        ap (λ (m : ℕ). length o - m) (length-append (take f o) xs) ∙ omega (arith, front_length, xs-length, r.room, one_more) in
+        ap (λ (m : ℕ). length o - m) (length-append (take f o) xs) ∙ omega (arith, front_length, xs_length, r.room, one_more) in
         ap (λ (m : ℕ). replicate m 0) e
 
     in_parts : o ≡ (take f o ++ take p xs) ++ (drop p xs ++ (0 ∷ zs))
     unfolding row_with padded
     in_parts =
         r.rest
-        ∙ ap₂ (λ (l m : List ℕ). (take f o ++ l) ++ m) (sym (take-append-drop p xs)) zeros-left
+        ∙ ap₂ (λ (l m : List ℕ). (take f o ++ l) ++ m) (sym (take-append-drop p xs)) zeros_left
         ∙ ap (λ (l : List ℕ). l ++ (0 ∷ zs)) (sym (append_assoc (take f o) (take p xs) (drop p xs)))
         ∙ append_assoc (take f o ++ take p xs) (drop p xs) (0 ∷ zs)
 
@@ -278,8 +278,8 @@ module _ {o : List ℕ} {f n a : ℕ} (r : Row o f n a) where
       sym one_more,
       ap (λ (l : List ℕ). set (gap l (f + p) (n - p)) (f + p) a) in_parts
           ∙ gap_put (take f o ++ take p xs) (drop p xs) zs 0 a (f + p) (n - p)
-          (length-append (take f o) (take p xs) ∙ omega (arith, front_length, length-take-le p xs (omega (arith, seat-most, xs-length))))
-          (length-drop p xs ∙ omega (arith, xs-length))
+          (length-append (take f o) (take p xs) ∙ omega (arith, front_length, length-take-le p xs (omega (arith, seat_most, xs_length))))
+          (length-drop p xs ∙ omega (arith, xs_length))
           ∙ joined,
     )
 
@@ -289,15 +289,15 @@ module _ (o : List ℕ) (f m a : ℕ) (h : 0 < m) where
   prev : m ≡ suc (m - 1)
   prev = omega arith
 
-  pub seat-stop : get_or o (f + m - 1) 0 ≤ a → seat_of o f m a ≡ m
-  seat-stop k = ap (λ (i : ℕ). seat_of o f i a) prev ∙ seat-here o f (m - 1) a (rw (← prev) k) ∙ sym prev
+  pub seat_stop : get_or o (f + m - 1) 0 ≤ a → seat_of o f m a ≡ m
+  seat_stop k = ap (λ (i : ℕ). seat_of o f i a) prev ∙ seat_here o f (m - 1) a (rw (← prev) k) ∙ sym prev
 
-  pub seat-turn : a < get_or o (f + m - 1) 0 → seat_of o f m a ≡ seat_of o f (m - 1) a
-  seat-turn k = ap (λ (i : ℕ). seat_of o f i a) prev ∙ seat-on o f (m - 1) a (rw (← prev) k)
+  pub seat_turn : a < get_or o (f + m - 1) 0 → seat_of o f m a ≡ seat_of o f (m - 1) a
+  seat_turn k = ap (λ (i : ℕ). seat_of o f i a) prev ∙ seat_on o f (m - 1) a (rw (← prev) k)
 
-  pub gap-turn : gap o f m ≡ gap (set o (f + m) (get_or o (f + m - 1) 0)) f (m - 1)
+  pub gap_turn : gap o f m ≡ gap (set o (f + m) (get_or o (f + m - 1) 0)) f (m - 1)
   unfolding gap
-  gap-turn = ap (gap o f) prev ∙ ap (λ (i : ℕ). gap (set o (f + i) (get_or o (f + i - 1) 0)) f (m - 1)) (sym prev)
+  gap_turn = ap (gap o f) prev ∙ ap (λ (i : ℕ). gap (set o (f + i) (get_or o (f + i - 1) 0)) f (m - 1)) (sym prev)
 
 -- ---- as the code has it
 
@@ -317,21 +317,21 @@ abbrev pub Inserted : List ℕ → ℕ → ℕ → ℕ → ℕ → List ℕ → 
 Inserted o f n a m u = (m ≡ length (insert a (part o f n))) × (u ≡ row_with o f (insert a (part o f n)))
 
 module _ {o : List ℕ} {f n a : ℕ} (r : Row o f n a) {s : ℕ} (e : s ≡ seat_of o f n a) where
-  at-seat : s ≡ below a (part o f n)
-  at-seat = e ∙ row-seat r
+  at_seat : s ≡ below a (part o f n)
+  at_seat = e ∙ row_seat r
 
-  pub seat-few : s ≤ n
-  seat-few = omega (arith, at-seat, seat-most r)
+  pub seat_few : s ≤ n
+  seat_few = omega (arith, at_seat, seat_most r)
 
-  pub insert-known : {b : Bool} → b ≡ ends_in o f s a → b ≡ true → Inserted o f n a n o
-  insert-known d h = let q = ends_true o f s a (sym d ∙ h) in row-there r (rw at-seat at q.0) (rw at-seat at q.1)
+  pub insert_known : {b : Bool} → b ≡ ends_in o f s a → b ≡ true → Inserted o f n a n o
+  insert_known d h = let q = ends_true o f s a (sym d ∙ h) in row_there r (rw at_seat at q.0) (rw at_seat at q.1)
 
   module _ {b : Bool} (d : b ≡ ends_in o f s a) (h : b ≡ false) where
     absent : 0 < below a (part o f n) → get_or o (f + below a (part o f n) - 1) 0 ≡ a → ⊥
-    absent = rw at-seat at (ends_false o f s a (sym d ∙ h))
+    absent = rw at_seat at (ends_false o f s a (sym d ∙ h))
 
-    pub insert-room : f + s + (n - s) < length o
-    insert-room = rw at-seat (row_room r absent)
+    pub insert_room : f + s + (n - s) < length o
+    insert_room = rw at_seat (row_room r absent)
 
-    pub insert-unknown : {u : List ℕ} → u ≡ set (gap o (f + s) (n - s)) (f + s) a → Inserted o f n a (n + 1) u
-    insert-unknown q = let w = row_new r absent in (w.0, q ∙ rw at-seat w.1)
+    pub insert_unknown : {u : List ℕ} → u ≡ set (gap o (f + s) (n - s)) (f + s) a → Inserted o f n a (n + 1) u
+    insert_unknown q = let w = row_new r absent in (w.0, q ∙ rw at_seat w.1)

@@ -16,7 +16,7 @@ use Rattle.groups.specs.Lists.{which}
 use Rattle.groups.specs.Groups.{insert, rising, alts_of, together, subset}
 use Rattle.groups.specs.Firsts.{together_kind}
 use Rattle.groups.specs.Rising.{insert_least, alts_rise}
-use Rattle.groups.specs.Last.{last-yes, last-no, alts_last}
+use Rattle.groups.specs.Last.{last_yes, last_no, alts_last}
 use Rattle.grouping.specs.Alike.{alike_at}
 use Rattle.grouping.specs.Ways.{same_places}
 use Rattle.grouping.specs.Leads.{FirstAlike, Next, Follows}
@@ -26,7 +26,7 @@ use Rattle.grouping.specs.declared.inner.traits.Alike.TheVariants.{Place}
 use Rattle.outputs.specs.Outputs.{padded}
 use Rattle.outputs.specs.Outputs.Laws.{padded_length}
 use Rattle.outputs.specs.Insert.{row_with, Row, Inserted}
-use Rattle.outputs.specs.Rows.{row, row-inserted}
+use Rattle.outputs.specs.Rows.{row, row_inserted}
 
 -- config j is in the subset of config i
 abbrev pub joins : List ℕ → ℕ → ℕ → Bool
@@ -40,34 +40,34 @@ abbrev pub brought : List ℕ → ℕ → ℕ → List ℕ
 brought v i m = alts_of (which (together (config_at v i)) (configs_in v m))
 
 module _ (v : List ℕ) (i : ℕ) where
-  pub brought-yes : (m : ℕ) → joins v i m ≡ true → brought v i (suc m) ≡ insert (alt_at v m) (brought v i m)
+  pub brought_yes : (m : ℕ) → joins v i m ≡ true → brought v i (suc m) ≡ insert (alt_at v m) (brought v i m)
   unfolding configs_in
-  brought-yes m e =
-      ap alts_of (last-yes (together (config_at v i)) (config_at v m) e (configs_in v m)) ∙ alts_last (which (together (config_at v i)) (configs_in v m)) (config_at v m)
+  brought_yes m e =
+      ap alts_of (last_yes (together (config_at v i)) (config_at v m) e (configs_in v m)) ∙ alts_last (which (together (config_at v i)) (configs_in v m)) (config_at v m)
 
-  brought-no : (m : ℕ) → joins v i m ≡ false → brought v i (suc m) ≡ brought v i m
+  brought_no : (m : ℕ) → joins v i m ≡ false → brought v i (suc m) ≡ brought v i m
   unfolding configs_in
-  brought-no m e = ap alts_of (last-no (together (config_at v i)) (config_at v m) e (configs_in v m))
+  brought_no m e = ap alts_of (last_no (together (config_at v i)) (config_at v m) e (configs_in v m))
 
   -- configs of other subsets bring nothing
-  brought-skip : (a b : ℕ) → a ≤ b → ((k : ℕ) → a ≤ k → k < b → joins v i k ≡ false) → brought v i b ≡ brought v i a
-  brought-skip a zero h f = let e : a ≡ 0 = omega arith in rw e refl
-  brought-skip a (suc b) h f =
+  brought_skip : (a b : ℕ) → a ≤ b → ((k : ℕ) → a ≤ k → k < b → joins v i k ≡ false) → brought v i b ≡ brought v i a
+  brought_skip a zero h f = let e : a ≡ 0 = omega arith in rw e refl
+  brought_skip a (suc b) h f =
       two a (suc b)
       (λ e. rw e refl)
-      (λ d. brought-no b (f b (omega arith) (omega arith)) ∙ brought-skip a b (omega arith) (λ k p q. f k p (omega arith)))
+      (λ d. brought_no b (f b (omega arith) (omega arith)) ∙ brought_skip a b (omega arith) (λ k p q. f k p (omega arith)))
 
   -- and none takes any away
-  brought-grow : (a b : ℕ) → a ≤ b → length (brought v i a) ≤ length (brought v i b)
-  brought-grow a zero h = let e : a ≡ 0 = omega arith in rw e (omega arith)
-  brought-grow a (suc b) h =
+  brought_grow : (a b : ℕ) → a ≤ b → length (brought v i a) ≤ length (brought v i b)
+  brought_grow a zero h = let e : a ≡ 0 = omega arith in rw e (omega arith)
+  brought_grow a (suc b) h =
       two a (suc b)
       (λ e. rw e (omega arith))
       (λ d.
-      let ih = brought-grow a b (omega arith) in
+      let ih = brought_grow a b (omega arith) in
       bool? (joins v i b)
-      (λ e. omega (arith, ih, ap length (brought-yes b e), insert_least (alt_at v b) (brought v i b)))
-      (λ e. omega (arith, ih, ap length (brought-no b e))))
+      (λ e. omega (arith, ih, ap length (brought_yes b e), insert_least (alt_at v b) (brought v i b)))
+      (λ e. omega (arith, ih, ap length (brought_no b e))))
 
 -- all alternatives of the subset
 abbrev pub alts_at : List ℕ → ℕ → List ℕ
@@ -116,12 +116,12 @@ module _ {v z : List ℕ} {i f : ℕ} {o : List ℕ} (r : Roomy v z i f o) where
   unfolding configs_in which alts_of rising
   none_before =
       let l : FirstAlike (alike_at v Place) i i = rw r.first at (r.led.leads i r.here) in
-      brought-skip v i 0 i (omega arith) (λ k p q.
+      brought_skip v i 0 i (omega arith) (λ k p q.
       is_false (joins v i k) (λ e. never_both (joins_alike v k i ∙ together_kind.swap (config_at v i) (config_at v k) e) (l.first k q)))
 
-  pub collect-begin : Collecting v i f (i + 1) 0 o o
+  pub collect_begin : Collecting v i f (i + 1) 0 o o
   unfolding done_to
-  collect-begin =
+  collect_begin =
       let s : i + 1 ≡ suc i = omega arith in
       rw s (record {
         words = r.rest ∙ ap (row_with o f) (sym none_before);
@@ -129,14 +129,14 @@ module _ {v z : List ℕ} {i f : ℕ} {o : List ℕ} (r : Roomy v z i f o) where
         known = λ m e. let q : i ≡ m = omega arith in rw (← q) (together_kind.self (config_at v i), r.here);
       })
 
-  pub collect-end : (next count : ℕ) (u : List ℕ) → Collecting v i f next count o u → next ≡ 0 → (count ≡ length (alts_at v i)) × (u ≡ row_with o f (alts_at v i))
+  pub collect_end : (next count : ℕ) (u : List ℕ) → Collecting v i f next count o u → next ≡ 0 → (count ≡ length (alts_at v i)) × (u ≡ row_with o f (alts_at v i))
   unfolding done_to
-  collect-end next count u w e = let x = rw e at w in (x.counted ∙ ap length (brought_all v i), x.words ∙ ap (row_with o f) (brought_all v i))
+  collect_end next count u w e = let x = rw e at w in (x.counted ∙ ap length (brought_all v i), x.words ∙ ap (row_with o f) (brought_all v i))
 
-  pub collect-length : {next count : ℕ} {u : List ℕ} → Collecting v i f next count o u → next ≡ 0 → length u ≡ length o
+  pub collect_length : {next count : ℕ} {u : List ℕ} → Collecting v i f next count o u → next ≡ 0 → length u ≡ length o
   unfolding row_with
-  collect-length {next} {count} {u} w e =
-      ap length (collect-end next count u w e).1
+  collect_length {next} {count} {u} w e =
+      ap length (collect_end next count u w e).1
       ∙ padded_length (length o) (take f o ++ alts_at v i) (omega (arith, length-append (take f o) (alts_at v i), length-take-le f o (omega (arith, r.fits)), r.fits))
 
   module _ {next count : ℕ} {u : List ℕ} (w : Collecting v i f next count o u) (d : next ≡ 0 → ⊥) where
@@ -158,33 +158,33 @@ module _ {v z : List ℕ} {i f : ℕ} {o : List ℕ} (r : Roomy v z i f o) where
 
     more : length (insert (alt_at v m) xs) ≤ length (alts_at v i)
     more =
-        omega (arith, ap length (brought-yes v i m here.0), brought-grow v i (suc m) (config_count v) here.1, ap length (brought_all v i))
+        omega (arith, ap length (brought_yes v i m here.0), brought_grow v i (suc m) (config_count v) here.1, ap length (brought_all v i))
 
     fitting : f + length xs ≤ length o
     fitting = omega (arith, insert_least (alt_at v m) xs, more, r.fits)
 
-    words-now : u ≡ padded (length o) (take f o ++ xs)
+    words_now : u ≡ padded (length o) (take f o ++ xs)
     unfolding row_with
-    words-now = w.words ∙ ap (λ (k : ℕ). row_with o f (brought v i k)) done
+    words_now = w.words ∙ ap (λ (k : ℕ). row_with o f (brought v i k)) done
 
-    count-now : length xs ≡ count
-    count-now = sym (w.counted ∙ ap (λ (k : ℕ). length (brought v i k)) done)
+    count_now : length xs ≡ count
+    count_now = sym (w.counted ∙ ap (λ (k : ℕ). length (brought v i k)) done)
 
     front : length (take f o) ≡ f
     front = length-take-le f o (omega (arith, r.fits))
 
-    pub collect-asks : (a : ℕ) → a ≡ alt_at v m → Row u f count a
-    collect-asks a e =
-        rw (e, words-now) (row (length o) (take f o) xs f front fitting (alts_rise (which (together (config_at v i)) (configs_in v m))) (alt_at v m)
-        (omega (arith, more, r.fits)) count count-now)
+    pub collect_asks : (a : ℕ) → a ≡ alt_at v m → Row u f count a
+    collect_asks a e =
+        rw (e, words_now) (row (length o) (take f o) xs f front fitting (alts_rise (which (together (config_at v i)) (configs_in v m))) (alt_at v m)
+        (omega (arith, more, r.fits)) count count_now)
 
-    collect-added : (a : ℕ) → a ≡ alt_at v m → (k : ℕ) (y : List ℕ) → Inserted u f count a k y
+    collect_added : (a : ℕ) → a ≡ alt_at v m → (k : ℕ) (y : List ℕ) → Inserted u f count a k y
         → (k ≡ length (brought v i (suc m))) × (y ≡ row_with o f (brought v i (suc m)))
     unfolding row_with
-    collect-added a e k y q =
-        let b = brought-yes v i m here.0 in
-        let s = row-inserted (length o) (take f o) xs f front fitting (alts_rise (which (together (config_at v i)) (configs_in v m))) (alt_at v m)
-        (omega (arith, more, r.fits)) count count-now k y (rw (e, words-now) at q) in
+    collect_added a e k y q =
+        let b = brought_yes v i m here.0 in
+        let s = row_inserted (length o) (take f o) xs f front fitting (alts_rise (which (together (config_at v i)) (configs_in v m))) (alt_at v m)
+        (omega (arith, more, r.fits)) count count_now k y (rw (e, words_now) at q) in
         (s.0 ∙ ap length (sym b), s.1 ∙ ap (λ (l : List ℕ). padded (length o) (take f o ++ l)) (sym b))
 
     -- what the next of config m says
@@ -197,23 +197,23 @@ module _ {v z : List ℕ} {i f : ℕ} {o : List ℕ} (r : Roomy v z i f o) where
         is_false (joins v i k) (λ q. never_both (joins_alike v m k ∙ together_kind.next (config_at v m) (config_at v i) (config_at v k) back q) e)
 
     module _ (a : ℕ) (e : a ≡ alt_at v m) (k : ℕ) (y : List ℕ) (q : Inserted u f count a k y) where
-      collect-none : get_or z (members_at + m) 0 ≡ 0 → Collecting v i f 0 k o y
+      collect_none : get_or z (members_at + m) 0 ≡ 0 → Collecting v i f 0 k o y
       unfolding done_to
-      collect-none g =
-          let s = collect-added a e k y q in
-          let b : brought v i (config_count v) ≡ brought v i (suc m) = brought-skip v i (suc m) (config_count v) here.1 (λ j p l. apart j (after.none g j p l)) in
+      collect_none g =
+          let s = collect_added a e k y q in
+          let b : brought v i (config_count v) ≡ brought v i (suc m) = brought_skip v i (suc m) (config_count v) here.1 (λ j p l. apart j (after.none g j p l)) in
           record {
             words = s.1 ∙ ap (row_with o f) (sym b);
             counted = s.0 ∙ ap length (sym b);
             known = λ j p. absurd (omega arith);
           }
 
-      collect-some : (j : ℕ) → get_or z (members_at + m) 0 ≡ suc j → Collecting v i f (suc j) k o y
+      collect_some : (j : ℕ) → get_or z (members_at + m) 0 ≡ suc j → Collecting v i f (suc j) k o y
       unfolding done_to
-      collect-some j g =
-          let s = collect-added a e k y q in
+      collect_some j g =
+          let s = collect_added a e k y q in
           let t : Follows (alike_at v Place) (config_count v) m j = after.some j g in
-          let b : brought v i j ≡ brought v i (suc m) = brought-skip v i (suc m) j t.later (λ k p l. apart k (t.skips k p l)) in
+          let b : brought v i j ≡ brought v i (suc m) = brought_skip v i (suc m) j t.later (λ k p l. apart k (t.skips k p l)) in
           record {
             words = s.1 ∙ ap (row_with o f) (sym b);
             counted = s.0 ∙ ap length (sym b);
@@ -223,15 +223,15 @@ module _ {v z : List ℕ} {i f : ℕ} {o : List ℕ} (r : Roomy v z i f o) where
           }
 
       -- one turn: the next config, and fewer are left
-      pub collect-next : Collecting v i f (get_or z (members_at + m) 0) k o y × (left_at (config_count v) (get_or z (members_at + m) 0) < left_at (config_count v) next)
-      collect-next =
+      pub collect_next : Collecting v i f (get_or z (members_at + m) 0) k o y × (left_at (config_count v) (get_or z (members_at + m) 0) < left_at (config_count v) next)
+      collect_next =
           two (get_or z (members_at + m) 0) 0
-          (λ g. (rw g (collect-none g), omega (arith, ap (left_at (config_count v)) g, left_none (config_count v), now-left, here.1)))
+          (λ g. (rw g (collect_none g), omega (arith, ap (left_at (config_count v)) g, left_none (config_count v), now_left, here.1)))
           (λ g.
           let j : ℕ = get_or z (members_at + m) 0 - 1 in
           let g' : get_or z (members_at + m) 0 ≡ suc j = omega arith in
           let t : Follows (alike_at v Place) (config_count v) m j = after.some j g' in
-          (rw g' (collect-some j g'), omega (arith, ap (left_at (config_count v)) g', left_some (config_count v) j, now-left, t.later, t.within)))
+          (rw g' (collect_some j g'), omega (arith, ap (left_at (config_count v)) g', left_some (config_count v) j, now_left, t.later, t.within)))
         where
-          now-left : left_at (config_count v) next ≡ config_count v - m
-          now-left = ap (left_at (config_count v)) is ∙ left_some (config_count v) m
+          now_left : left_at (config_count v) next ≡ config_count v - m
+          now_left = ap (left_at (config_count v)) is ∙ left_some (config_count v) m

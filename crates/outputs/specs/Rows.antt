@@ -20,9 +20,9 @@ padded_none n = let e : n - 0 ≡ n = omega arith in ap (λ (m : ℕ). replicate
 
 -- what is written is read back
 module _ (n : ℕ) (xs : List ℕ) where
-  pub padded-take : (m : ℕ) → m ≤ length xs → take m (padded n xs) ≡ take m xs
+  pub padded_take : (m : ℕ) → m ≤ length xs → take m (padded n xs) ≡ take m xs
   unfolding padded
-  padded-take m h = take-append-le m xs (blank (n - length xs)) h
+  padded_take m h = take-append-le m xs (blank (n - length xs)) h
 
 -- one word more
 pub padded_set : (n : ℕ) (xs : List ℕ) (a k : ℕ) → length xs ≡ k → k < n → set (padded n xs) k a ≡ padded n (xs ++ (a ∷ []))
@@ -54,36 +54,36 @@ module _ (n : ℕ) (pre xs : List ℕ) (f : ℕ) (e : length pre ≡ f) (fits : 
   size : length (pre ++ xs) ≡ f + length xs
   size = length-append pre xs ∙ ap (λ (m : ℕ). m + length xs) e
 
-  o-length : length o ≡ n
-  o-length = padded_length n (pre ++ xs) (omega (arith, size))
+  o_length : length o ≡ n
+  o_length = padded_length n (pre ++ xs) (omega (arith, size))
 
-  pub row-front : take f o ≡ pre
-  row-front = padded-take n (pre ++ xs) f (omega (arith, size)) ∙ take_at pre xs f e
+  pub row_front : take f o ≡ pre
+  row_front = padded_take n (pre ++ xs) f (omega (arith, size)) ∙ take_at pre xs f e
 
-  pub row-part : (k : ℕ) → length xs ≡ k → part o f k ≡ xs
+  pub row_part : (k : ℕ) → length xs ≡ k → part o f k ≡ xs
   unfolding padded
-  row-part k q =
+  row_part k q =
       ap (λ (l : List ℕ). take k (drop f l)) (append_assoc pre xs (blank (n - length (pre ++ xs))))
       ∙ ap (take k) (drop_at pre (xs ++ blank (n - length (pre ++ xs))) f e)
       ∙ take_at xs (blank (n - length (pre ++ xs))) k q
 
-  pub row-with : (ys : List ℕ) → row_with o f ys ≡ padded n (pre ++ ys)
+  pub row_with_lem : (ys : List ℕ) → row_with o f ys ≡ padded n (pre ++ ys)
   unfolding row_with
-  row-with ys = ap₂ (λ (m : ℕ) (l : List ℕ). padded m (l ++ ys)) o-length row-front
+  row_with_lem ys = ap₂ (λ (m : ℕ) (l : List ℕ). padded m (l ++ ys)) o_length row_front
 
   -- it is a row that an alternative can be put into
   module _ (v : Rising xs) (a : ℕ) (room : f + length (insert a xs) ≤ n) (k : ℕ) (q : length xs ≡ k) where
     pub row : Row o f k a
     row = record {
-      within = omega (arith, o-length);
-      rises = rw (row-part k q) v;
-      rest = rw (row-part k q) (sym (row-with xs));
-      room = rw (row-part k q) (omega (arith, o-length));
+      within = omega (arith, o_length);
+      rises = rw (row_part k q) v;
+      rest = rw (row_part k q) (sym (row_with_lem xs));
+      room = rw (row_part k q) (omega (arith, o_length));
     }
 
     -- and what then stands there
-    pub row-inserted : (m : ℕ) (u : List ℕ) → Inserted o f k a m u → (m ≡ length (insert a xs)) × (u ≡ padded n (pre ++ insert a xs))
-    row-inserted m u w = (w.0 ∙ ap (λ (l : List ℕ). length (insert a l)) (row-part k q), w.1 ∙ ap (λ (l : List ℕ). row_with o f (insert a l)) (row-part k q) ∙ row-with (insert a xs))
+    pub row_inserted : (m : ℕ) (u : List ℕ) → Inserted o f k a m u → (m ≡ length (insert a xs)) × (u ≡ padded n (pre ++ insert a xs))
+    row_inserted m u w = (w.0 ∙ ap (λ (l : List ℕ). length (insert a l)) (row_part k q), w.1 ∙ ap (λ (l : List ℕ). row_with o f (insert a l)) (row_part k q) ∙ row_with_lem (insert a xs))
 
 -- a zero at the end is no word more
 pub padded_zero : (n : ℕ) (xs : List ℕ) → length xs < n → padded n (xs ++ (0 ∷ [])) ≡ padded n xs

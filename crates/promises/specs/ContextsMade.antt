@@ -5,64 +5,64 @@ use Rattle.std.proofs.Common.{sym, ap}
 use Rattle.layout.specs.Layout.{used, count as contexts}
 use Rattle.store.specs.Calls.{Left, Accepts}
 use Rattle.interning.specs.SingletonCall.{singleton_call}
-use Rattle.interning.specs.Promises.{singleton_figure, singleton-found, singleton-one}
+use Rattle.interning.specs.Promises.{singleton_figure, singleton_found, singleton_one}
 use Rattle.contexts.specs.MergeCall.{merge_call}
 use Rattle.contexts.specs.Promises.{merge_figure, merge_found}
 use Rattle.sets.specs.Config.{Config}
 use Rattle.sets.specs.Layout.{config_at, config_count, flag}
 use Rattle.sets.specs.Sets.{key}
 use Rattle.sets.specs.Calls.{Adds, add_call}
-use Rattle.configs.specs.Sentences.{add_figure, merged-call, inserted-none}
+use Rattle.configs.specs.Sentences.{add_figure, merged_call, inserted_none}
 use Rattle.format.specs.Format.{singleton, merge, add}
 use Rattle.lines.specs.Lines.{numbers_line, end_line}
 use Rattle.replies.specs.Replies.{Lent, line_of, set_line_of, call_of}
 use Rattle.steps.specs.Steps.{run_of}
 use Rattle.steps.specs.ContextsMade.{made_by, sum_of}
-use Rattle.steps.specs.ContextsMade.Laws.{singleton-prints, merge-prints, add-prints, sum_printed}
+use Rattle.steps.specs.ContextsMade.Laws.{singleton_prints, merge_prints, add_prints, sum_printed}
 
 -- ---- "how many contexts the call made: exactly the count after less the count before", of refused calls too, which make none
 
 module _ (w z : List ℕ) where
-  pub singleton-makes : (p r : ℕ) → contexts w + (singleton_call w z p r).made ≡ contexts (singleton_call w z p r).store
-  singleton-makes = singleton_figure w z
+  pub singleton_makes : (p r : ℕ) → contexts w + (singleton_call w z p r).made ≡ contexts (singleton_call w z p r).store
+  singleton_makes = singleton_figure w z
 
-  pub merge-makes : (a b : ℕ) (m : Bool) → contexts w + (merge_call w z a b m).made ≡ contexts (merge_call w z a b m).store
-  merge-makes = merge_figure w z
+  pub merge_makes : (a b : ℕ) (m : Bool) → contexts w + (merge_call w z a b m).made ≡ contexts (merge_call w z a b m).store
+  merge_makes = merge_figure w z
 
-  pub addition-makes : (v : List ℕ) (x : Config) → contexts w + (add_call w v z x).made ≡ contexts (add_call w v z x).store
-  addition-makes v = add_figure w v z
+  pub addition_makes : (v : List ℕ) (x : Config) → contexts w + (add_call w v z x).made ≡ contexts (add_call w v z x).store
+  addition_makes v = add_figure w v z
 
 -- with a known key an addition makes what the merge of the two contexts makes, and with a new one nothing
 module _ (w v z : List ℕ) (x : Config) (a : ℕ) (w' v' : List ℕ) (ok : Adds (add_call w v z x) a w' v') where
-  pub addition-makes-as-its-merge : (i : ℕ) → i < config_count v → key (config_at v i) ≡ key x
+  pub addition_makes_as_its_merge : (i : ℕ) → i < config_count v → key (config_at v i) ≡ key x
       → (add_call w v z x).made ≡ (merge_call w z (config_at v i).context x.context (not (flag 1 v))).made
-  addition-makes-as-its-merge i here same = sym (ap (λ (l : Left). l.made) (merged-call w v z x a w' v' ok i here same))
+  addition_makes_as_its_merge i here same = sym (ap (λ (l : Left). l.made) (merged_call w v z x a w' v' ok i here same))
 
-  pub insertion-makes-none : ((i : ℕ) → i < config_count v → key (config_at v i) ≡ key x → ⊥) → (add_call w v z x).made ≡ 0
-  insertion-makes-none = inserted-none w v z x a w' v' ok
+  pub insertion_makes_none : ((i : ℕ) → i < config_count v → key (config_at v i) ≡ key x → ⊥) → (add_call w v z x).made ≡ 0
+  insertion_makes_none = inserted_none w v z x a w' v' ok
 
 -- ---- "whether the context was found or made": found, and the figure is 0, exactly if its number was there before
 
 module _ (w z : List ℕ) (c : ℕ) (w' : List ℕ) where
-  pub singleton-found-or-made : (p r : ℕ) → Accepts (singleton_call w z p r) c w'
+  pub singleton_found_or_made : (p r : ℕ) → Accepts (singleton_call w z p r) c w'
       → (((singleton_call w z p r).made ≡ 0) ↔ (c < contexts w)) × ((singleton_call w z p r).made ≤ 1)
-  singleton-found-or-made p r ok = (singleton-found w z p r c w' ok, singleton-one w z p r c w' ok)
+  singleton_found_or_made p r ok = (singleton_found w z p r c w' ok, singleton_one w z p r c w' ok)
 
-  pub merge-found-or-made : (a b : ℕ) (m : Bool) → Accepts (merge_call w z a b m) c w' → ((merge_call w z a b m).made ≡ 0) ↔ (c < contexts w)
-  merge-found-or-made a b m = merge_found w z a b m c w'
+  pub merge_found_or_made : (a b : ℕ) (m : Bool) → Accepts (merge_call w z a b m) c w' → ((merge_call w z a b m).made ≡ 0) ↔ (c < contexts w)
+  merge_found_or_made a b m = merge_found w z a b m c w'
 
 -- ---- scripts
 
 -- "`C` and `A` lines get this figure as a last field"; a refusal's line has its number alone
 module _ (l : Lent) where
-  pub singleton-line : (p r : ℕ) → let call = call_of l (singleton p r) in call.reply ≡ line_of [] (made_by l call) (singleton_call l.store l.scratch p r).reply
-  singleton-line = singleton-prints l
+  pub singleton_line : (p r : ℕ) → let call = call_of l (singleton p r) in call.reply ≡ line_of [] (made_by l call) (singleton_call l.store l.scratch p r).reply
+  singleton_line = singleton_prints l
 
-  pub merge-line : (a b : ℕ) (m : Bool) → let call = call_of l (merge a b m) in call.reply ≡ line_of [] (made_by l call) (merge_call l.store l.scratch a b m).reply
-  merge-line = merge-prints l
+  pub merge_line : (a b : ℕ) (m : Bool) → let call = call_of l (merge a b m) in call.reply ≡ line_of [] (made_by l call) (merge_call l.store l.scratch a b m).reply
+  merge_line = merge_prints l
 
-  pub addition-line : (x : Config) → let call = call_of l (add x) in call.reply ≡ set_line_of [] (made_by l call) (add_call l.store l.set l.scratch x).reply
-  addition-line = add-prints l
+  pub addition_line : (x : Config) → let call = call_of l (add x) in call.reply ≡ set_line_of [] (made_by l call) (add_call l.store l.set l.scratch x).reply
+  addition_line = add_prints l
 
 -- the sum of these figures over a script is the count of `T`'s line less 1: context 0 is there from the start
 pub the_sum_of_figures : (s : List ℕ) → end_line (run_of s).words.store ≡ numbers_line 84 (1 + sum_of s) (used (run_of s).words.store)

@@ -20,13 +20,13 @@ use Rattle.work.specs.Counted.{Outcome}
 use Rattle.work.specs.Counted.Laws.{too_much_lem, is_too_much}
 use Rattle.store.specs.Told.{fresh_refused_exactly, fresh_refused_leaves}
 use Rattle.interning.specs.SingletonCall.{singleton_checks, singleton_call}
-use Rattle.interning.specs.Promises.{singleton-refused-exactly, singleton-refused-leaves}
+use Rattle.interning.specs.Promises.{singleton_refused_exactly, singleton_refused_leaves}
 use Rattle.interning.specs.Promises as Singles
 use Rattle.contexts.specs.MergeCall.{merge_checks, merge_call}
-use Rattle.contexts.specs.Promises.{merge-refused-exactly, merge-refused-leaves}
+use Rattle.contexts.specs.Promises.{merge_refused_exactly, merge_refused_leaves}
 use Rattle.contexts.specs.Promises as Merges
 use Rattle.queries.specs.Queries.{Question, query_call}
-use Rattle.queries.specs.Refused.{query-refused-exactly, query-refused-leaves, ask_in_order}
+use Rattle.queries.specs.Refused.{query_refused_exactly, query_refused_leaves, ask_in_order}
 use Rattle.sets.specs.Lists.{any}
 use Rattle.sets.specs.Layout.{most_configs, set_words_length, config_at, config_count, flag}
 use Rattle.sets.specs.Sets.{key, same_keys}
@@ -34,9 +34,9 @@ use Rattle.sets.specs.Words.{set_of, SoundSet}
 use Rattle.sets.specs.Config.{Config}
 use Rattle.sets.specs.Calls as Sets
 use Rattle.sets.specs.Calls.{lent_lengths, lent_checks, add_checks, fresh_set_call, add_call, close_call}
-use Rattle.sets.specs.Refusals.{add-refused-exactly, add-refused-leaves, close-refused-exactly, close-refused-leaves}
+use Rattle.sets.specs.Refusals.{add_refused_exactly, add_refused_leaves, close_refused_exactly, close_refused_leaves}
 use Rattle.sets.specs.Refusals as SetRefusals
-use Rattle.sets.specs.Refusals.{full-exactly}
+use Rattle.sets.specs.Refusals.{full_exactly}
 use Rattle.promises.specs.Words.{fails, two_hold}
 use Rattle.sets.specs.Refusals.{fresh_refused_exactly as fresh-set-exactly, fresh_refused_leaves as fresh-set-leaves}
 use Rattle.outputs.specs.Outputs.{subsets_length, alts_length}
@@ -44,10 +44,10 @@ use Rattle.verdicts.specs.Calls as Verdicts
 use Rattle.verdicts.specs.Calls.{read_refusal, read_checks, conflicting_alt_subsets_call, conflicting_alts_call, unique_alt_call, single_viable_alt_call}
 use Rattle.verdicts.specs.Calls.{all_subsets_conflict_call, all_subsets_equal_call, most_stops, too_many_stops, verdict_call}
 use Rattle.figures.specs.Calls.{figures_call}
-use Rattle.figures.specs.Same.{figures-refuses}
+use Rattle.figures.specs.Same.{figures_refuses}
 use Rattle.reasons.specs.Calls.{why_call}
-use Rattle.reasons.specs.Sentences.{why-refuses}
-use Rattle.verdicts.specs.Refused.{unique-refuses, viable-refuses, conflict-refuses, equal-refuses, verdict-refuses, subsets-refuses, alts-refuses, read-in-order}
+use Rattle.reasons.specs.Sentences.{why_refuses}
+use Rattle.verdicts.specs.Refused.{unique_refuses, viable_refuses, conflict_refuses, equal_refuses, verdict_refuses, subsets_refuses, alts_refuses, read_in_order}
 
 -- "Every call ends on every input with nothing undefined": no theorem, but the toolchain's check of every function. No public call has a
 -- `requires` (`measure_copy` has one, which is for benchmarks only); each loop and the cycle of merges has a measure that falls; no index is out of
@@ -57,22 +57,22 @@ use Rattle.verdicts.specs.Refused.{unique-refuses, viable-refuses, conflict-refu
 -- checks whose reason holds
 
 module _ (w v z : List ℕ) (n : ℕ) where
-  pub singleton-refused : (p r : ℕ) → ((singleton_call w z p r).reply ≡ Stores.refused n) ↔ (due (singleton_checks w z p r) ≡ at n)
-  singleton-refused p r = singleton-refused-exactly w z p r n
+  pub singleton_refused : (p r : ℕ) → ((singleton_call w z p r).reply ≡ Stores.refused n) ↔ (due (singleton_checks w z p r) ≡ at n)
+  singleton_refused p r = singleton_refused_exactly w z p r n
 
-  pub merge-refused : (a b : ℕ) (m : Bool) → ((merge_call w z a b m).reply ≡ Stores.refused n) ↔ (due (merge_checks w z a b m) ≡ at n)
-  merge-refused a b m = merge-refused-exactly w z a b m n
+  pub merge_refused : (a b : ℕ) (m : Bool) → ((merge_call w z a b m).reply ≡ Stores.refused n) ↔ (due (merge_checks w z a b m) ≡ at n)
+  merge_refused a b m = merge_refused_exactly w z a b m n
 
-  pub query-refused : (q : Question) (c : ℕ) → ((query_call q w z c).reply ≡ Stores.refused n) ↔ (due (ask_checks w z c) ≡ at n)
-  query-refused q c = query-refused-exactly q w z c n
+  pub query_refused : (q : Question) (c : ℕ) → ((query_call q w z c).reply ≡ Stores.refused n) ↔ (due (ask_checks w z c) ≡ at n)
+  query_refused q c = query_refused_exactly q w z c n
 
-  pub add-refused : (x : Config) → ((add_call w v z x).reply ≡ Sets.refused n) ↔ (due (add_checks w v z x) ≡ at n)
-  add-refused x = add-refused-exactly w v z x n
+  pub add_refused : (x : Config) → ((add_call w v z x).reply ≡ Sets.refused n) ↔ (due (add_checks w v z x) ≡ at n)
+  add_refused x = add_refused_exactly w v z x n
 
-  pub close-refused : ((close_call w v z).reply ≡ Sets.refused n) ↔ (due (lent_checks (lent_lengths w v z) w v []) ≡ at n)
-  close-refused = close-refused-exactly w v z n
+  pub close_refused : ((close_call w v z).reply ≡ Sets.refused n) ↔ (due (lent_checks (lent_lengths w v z) w v []) ≡ at n)
+  close_refused = close_refused_exactly w v z n
 
-  pub subset-calls-refused : (o p stops : List ℕ)
+  pub subset_calls_refused : (o p stops : List ℕ)
       → (((conflicting_alt_subsets_call w v z o).reply ≡ Verdicts.refused n) ↔ (due (read_checks subsets_length [] w v z o) ≡ at n))
       × (((conflicting_alts_call w v z p).reply ≡ Verdicts.refused n) ↔ (due (read_checks alts_length [] w v z p) ≡ at n))
       × (((unique_alt_call w v z).reply ≡ Verdicts.refused n) ↔ (due (read_checks 0 [] w v z []) ≡ at n))
@@ -82,16 +82,16 @@ module _ (w v z : List ℕ) (n : ℕ) where
       × (((verdict_call w v z stops).reply ≡ Verdicts.refused n) ↔ (due (read_checks 0 (too_many_stops stops) w v z []) ≡ at n))
       × (((figures_call w v z stops).reply ≡ Verdicts.refused n) ↔ (due (read_checks 0 (too_many_stops stops) w v z []) ≡ at n))
       × (((why_call w v z stops p).reply ≡ Verdicts.refused n) ↔ (due (read_checks alts_length (too_many_stops stops) w v z p) ≡ at n))
-  subset-calls-refused o p stops = (
-    (subsets-refuses w v z o n).0,
-    (alts-refuses w v z p n).0,
-    (unique-refuses w v z n).0,
-    (viable-refuses w v z n).0,
-    (conflict-refuses w v z n).0,
-    (equal-refuses w v z n).0,
-    (verdict-refuses w v z stops n).0,
-    (figures-refuses w v z stops n).0,
-    (why-refuses w v z stops p n).0,
+  subset_calls_refused o p stops = (
+    (subsets_refuses w v z o n).0,
+    (alts_refuses w v z p n).0,
+    (unique_refuses w v z n).0,
+    (viable_refuses w v z n).0,
+    (conflict_refuses w v z n).0,
+    (equal_refuses w v z n).0,
+    (verdict_refuses w v z stops n).0,
+    (figures_refuses w v z stops n).0,
+    (why_refuses w v z stops p n).0,
   )
 
 -- ---- "Given exactly when": each reason in words, 9 aside, which is a script's; that of 1 and of 3 are SecondDemand's `sound_exactly_by_the_clauses` and its like of sets
@@ -111,12 +111,12 @@ module _ (w v z : List ℕ) where
       let t = two_hold _ _ _ _ (eqb-true (length v) set_words_length) (eq-eqb (length v) set_words_length) (eqb-true (length z) scratch_words) (eq-eqb (length z) scratch_words) in
       two_hold _ _ _ _ (eqb-true (length w) store_words) (eq-eqb (length w) store_words) t.0 t.1
 
-  pub reason-2-with-a-set : (not (lent_lengths w v z) ≡ true) ↔ ((length w ≡ store_words) × ((length v ≡ set_words_length) × (length z ≡ scratch_words)) → ⊥)
-  reason-2-with-a-set = fails _ _ lengths.0 lengths.1
+  pub reason_2_with_a_set : (not (lent_lengths w v z) ≡ true) ↔ ((length w ≡ store_words) × ((length v ≡ set_words_length) × (length z ≡ scratch_words)) → ⊥)
+  reason_2_with_a_set = fails _ _ lengths.0 lengths.1
 
-  pub reason-2-with-an-output : (o : List ℕ) (n : ℕ) → (not (lent_lengths w v z && eqb (length o) n) ≡ true)
+  pub reason_2_with_an_output : (o : List ℕ) (n : ℕ) → (not (lent_lengths w v z && eqb (length o) n) ≡ true)
       ↔ (((length w ≡ store_words) × ((length v ≡ set_words_length) × (length z ≡ scratch_words))) × (length o ≡ n) → ⊥)
-  reason-2-with-an-output o n =
+  reason_2_with_an_output o n =
       let t = two_hold _ _ _ _ lengths.0 lengths.1 (eqb-true (length o) n) (eq-eqb (length o) n) in
       fails _ _ t.0 t.1
 
@@ -142,7 +142,7 @@ reason_5 r =
 pub reason_8 : (k : ℕ) (v : List ℕ) (x : Config) → SoundSet k v
     → ((not (any (same_keys x) (set_of v).configs) && leb most_configs (length (set_of v).configs)) ≡ true)
     ↔ (((i : ℕ) → i < config_count v → key (config_at v i) ≡ key x → ⊥) × (config_count v ≡ most_configs))
-reason_8 = full-exactly
+reason_8 = full_exactly
 
 -- 12: "too much work": the counted merge is refused 12, and so the left side has 65,536 entries or more, counted at each depth (work: `refusal_is`)
 pub reason_12 : (o : Outcome ℕ) → ((too_much_work o).holds ≡ true) ↔ (o ≡ Work.refused 12)
@@ -154,45 +154,45 @@ reason_6 s = fails (fits s) _ (fits_true s) (true_fits s)
 
 -- "Refusal numbers, in order of checking": the numbers of each call's checks are among `order`, in that order
 module _ (w v z o stops : List ℕ) (p r a b c n : ℕ) (m : Bool) (x : Config) where
-  pub singleton-in-order : Sublistᴰ (map (λ (k : Check). k.number) (singleton_checks w z p r)) order
-  singleton-in-order = in_order_lem order _ (Singles.singleton-in-order w z p r n)
+  pub singleton_in_order : Sublistᴰ (map (λ (k : Check). k.number) (singleton_checks w z p r)) order
+  singleton_in_order = in_order_lem order _ (Singles.singleton_in_order w z p r n)
 
-  pub merge-in-order : Sublistᴰ (map (λ (k : Check). k.number) (merge_checks w z a b m)) order
-  merge-in-order = in_order_lem order _ (Merges.merge-in-order w z a b m n)
+  pub merge_in_order : Sublistᴰ (map (λ (k : Check). k.number) (merge_checks w z a b m)) order
+  merge_in_order = in_order_lem order _ (Merges.merge_in_order w z a b m n)
 
-  pub query-in-order : Sublistᴰ (map (λ (k : Check). k.number) (ask_checks w z c)) order
-  query-in-order = in_order_lem order _ (ask_in_order w z c)
+  pub query_in_order : Sublistᴰ (map (λ (k : Check). k.number) (ask_checks w z c)) order
+  query_in_order = in_order_lem order _ (ask_in_order w z c)
 
-  pub add-in-order : Sublistᴰ (map (λ (k : Check). k.number) (add_checks w v z x)) order
-  add-in-order = in_order_lem order _ (SetRefusals.add-in-order w v z x)
+  pub add_in_order : Sublistᴰ (map (λ (k : Check). k.number) (add_checks w v z x)) order
+  add_in_order = in_order_lem order _ (SetRefusals.add_in_order w v z x)
 
-  pub close-in-order : Sublistᴰ (map (λ (k : Check). k.number) (lent_checks (lent_lengths w v z) w v [])) order
-  close-in-order = in_order_lem order _ (SetRefusals.close-in-order w v z)
+  pub close_in_order : Sublistᴰ (map (λ (k : Check). k.number) (lent_checks (lent_lengths w v z) w v [])) order
+  close_in_order = in_order_lem order _ (SetRefusals.close_in_order w v z)
 
-  pub subset-calls-in-order : Sublistᴰ (map (λ (k : Check). k.number) (read_checks n [] w v z o)) order
+  pub subset_calls_in_order : Sublistᴰ (map (λ (k : Check). k.number) (read_checks n [] w v z o)) order
       × Sublistᴰ (map (λ (k : Check). k.number) (read_checks n (too_many_stops stops) w v z o)) order
-  subset-calls-in-order = (in_order_lem order _ (read-in-order w v z o n stops).0, in_order_lem order _ (read-in-order w v z o n stops).1)
+  subset_calls_in_order = (in_order_lem order _ (read_in_order w v z o n stops).0, in_order_lem order _ (read_in_order w v z o n stops).1)
 
 -- ---- "a refusal changes nothing in store or set, and clears the scratch (a wrong length leaves it)"
 
 module _ (w v z : List ℕ) (n : ℕ) where
-  pub singleton-keeps : (p r : ℕ) → (singleton_call w z p r).reply ≡ Stores.refused n → singleton_call w z p r ≡ Stores.refusal w z n
-  singleton-keeps p r = singleton-refused-leaves w z p r n
+  pub singleton_keeps : (p r : ℕ) → (singleton_call w z p r).reply ≡ Stores.refused n → singleton_call w z p r ≡ Stores.refusal w z n
+  singleton_keeps p r = singleton_refused_leaves w z p r n
 
   pub merge_keeps : (a b : ℕ) (m : Bool) → (merge_call w z a b m).reply ≡ Stores.refused n → merge_call w z a b m ≡ Stores.refusal w z n
-  merge_keeps a b m = merge-refused-leaves w z a b m n
+  merge_keeps a b m = merge_refused_leaves w z a b m n
 
-  pub query-keeps : (q : Question) (c : ℕ) → (query_call q w z c).reply ≡ Stores.refused n → query_call q w z c ≡ Stores.refusal w z n
-  query-keeps q c = query-refused-leaves q w z c n
+  pub query_keeps : (q : Question) (c : ℕ) → (query_call q w z c).reply ≡ Stores.refused n → query_call q w z c ≡ Stores.refusal w z n
+  query_keeps q c = query_refused_leaves q w z c n
 
-  pub add-keeps : (x : Config) → (add_call w v z x).reply ≡ Sets.refused n → add_call w v z x ≡ Sets.refusal w v z n
-  add-keeps x = add-refused-leaves w v z x n
+  pub add_keeps : (x : Config) → (add_call w v z x).reply ≡ Sets.refused n → add_call w v z x ≡ Sets.refusal w v z n
+  add_keeps x = add_refused_leaves w v z x n
 
-  pub close-keeps : (close_call w v z).reply ≡ Sets.refused n → close_call w v z ≡ Sets.refusal w v z n
-  close-keeps = close-refused-leaves w v z n
+  pub close_keeps : (close_call w v z).reply ≡ Sets.refused n → close_call w v z ≡ Sets.refusal w v z n
+  close_keeps = close_refused_leaves w v z n
 
   -- store and set are lent to read: what may be written is the scratch and the output
-  pub subset-calls-keep : (o p stops : List ℕ)
+  pub subset_calls_keep : (o p stops : List ℕ)
       → ((conflicting_alt_subsets_call w v z o).reply ≡ Verdicts.refused n → conflicting_alt_subsets_call w v z o ≡ read_refusal z o n)
       × ((conflicting_alts_call w v z p).reply ≡ Verdicts.refused n → conflicting_alts_call w v z p ≡ read_refusal z p n)
       × ((unique_alt_call w v z).reply ≡ Verdicts.refused n → unique_alt_call w v z ≡ read_refusal z [] n)
@@ -202,16 +202,16 @@ module _ (w v z : List ℕ) (n : ℕ) where
       × ((verdict_call w v z stops).reply ≡ Verdicts.refused n → verdict_call w v z stops ≡ read_refusal z [] n)
       × ((figures_call w v z stops).reply ≡ Verdicts.refused n → figures_call w v z stops ≡ read_refusal z [] n)
       × ((why_call w v z stops p).reply ≡ Verdicts.refused n → why_call w v z stops p ≡ read_refusal z p n)
-  subset-calls-keep o p stops = (
-    (subsets-refuses w v z o n).1,
-    (alts-refuses w v z p n).1,
-    (unique-refuses w v z n).1,
-    (viable-refuses w v z n).1,
-    (conflict-refuses w v z n).1,
-    (equal-refuses w v z n).1,
-    (verdict-refuses w v z stops n).1,
-    (figures-refuses w v z stops n).1,
-    (why-refuses w v z stops p n).1,
+  subset_calls_keep o p stops = (
+    (subsets_refuses w v z o n).1,
+    (alts_refuses w v z p n).1,
+    (unique_refuses w v z n).1,
+    (viable_refuses w v z n).1,
+    (conflict_refuses w v z n).1,
+    (equal_refuses w v z n).1,
+    (verdict_refuses w v z stops n).1,
+    (figures_refuses w v z stops n).1,
+    (why_refuses w v z stops p n).1,
   )
 
 -- ---- the two calls that work without scratch, over any earlier contents

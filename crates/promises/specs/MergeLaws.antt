@@ -37,7 +37,7 @@ module _ {w v : List ℕ} {es : List Event} (l : length w ≡ store_words) (t : 
 -- "0 swallows anything in a wildcard merge"
 pub swallows : {w v : List ℕ} {es : List Event} → length w ≡ store_words → sound w ≡ true → Run w es v → (a c : ℕ)
     → (Memᴰ (merged true 0 a c) es → c ≡ 0) × (Memᴰ (merged true a 0 c) es → c ≡ 0)
-swallows l t run a c = (Laws.swallows-right l t run a c, Laws.swallows-left l t run a c)
+swallows l t run a c = (Laws.swallows_right l t run a c, Laws.swallows_left l t run a c)
 
 -- "for every context there is a set of stacks, in this store or not, that a union with it changes, so nothing is neutral in a full merge": the set G
 -- has a stack, and lacks one of the context's

@@ -10,7 +10,7 @@ use Rattle.sets.specs.Config.{Config}
 use Rattle.sets.specs.Layout.{config_at, config_count, flag}
 use Rattle.sets.specs.Sets.{key}
 use Rattle.sets.specs.Calls.{Adds, add_call}
-use Rattle.configs.specs.Sentences.{merged-call}
+use Rattle.configs.specs.Sentences.{merged_call}
 
 -- "The count is returned and equals that of the definition. Above 65,536 the call is refused"
 pub merge_counted : (w z : List ℕ) (a b : ℕ) (m : Bool) (c : ℕ) (w' : List ℕ) → Accepts (merge_call w z a b m) c w'
@@ -21,4 +21,4 @@ merge_counted = merge_counts
 pub addition_counted : (w v z : List ℕ) (x : Config) (a : ℕ) (w' v' : List ℕ) → Adds (add_call w v z x) a w' v'
     → (i : ℕ) → i < config_count v → key (config_at v i) ≡ key x
     → (add_call w v z x).merges ≡ (merge_call w z (config_at v i).context x.context (not (flag 1 v))).merges
-addition_counted w v z x a w' v' ok i here same = sym (ap (λ (l : Left). l.merges) (merged-call w v z x a w' v' ok i here same))
+addition_counted w v z x a w' v' ok i here same = sym (ap (λ (l : Left). l.merges) (merged_call w v z x a w' v' ok i here same))

@@ -7,20 +7,20 @@ use Rattle.sets.specs.Layout.{set_words_length}
 use Rattle.format.specs.Format.{Record}
 use Rattle.lines.specs.Lines.{end_line}
 use Rattle.replies.specs.Replies.{Lent, call_of}
-use Rattle.replies.specs.Zeros.{call-zero}
+use Rattle.replies.specs.Zeros.{call_zero}
 use Rattle.steps.specs.Steps.{step_of, run_of, script_replies}
-use Rattle.steps.specs.Steps.Laws.{step-zero}
+use Rattle.steps.specs.Steps.Laws.{step_zero}
 use Rattle.script.specs.Leads.{run_leads, end_line_lem}
 use Rattle.examples.specs.Examples.{script, example}
 
 -- "Scratch: 16,384 u32 words, any contents on entry, all 0 on return": of each record's call, refused or not, over slices of the right lengths, and of
 -- each step of a script
 module _ (l : Lent) (w : length l.store ≡ store_words) (v : length l.set ≡ set_words_length) (z : length l.scratch ≡ scratch_words) where
-  pub scratch-0-after-a-call : (r : Record) → (call_of l r).words.scratch ≡ zeros
-  scratch-0-after-a-call = call-zero l (record { store = w; set = v; scratch = z })
+  pub scratch_0_after_a_call : (r : Record) → (call_of l r).words.scratch ≡ zeros
+  scratch_0_after_a_call = call_zero l (record { store = w; set = v; scratch = z })
 
-  pub scratch-0-after-a-step : (s : List ℕ) (i : ℕ) → (step_of s i l).printed.words.scratch ≡ zeros
-  scratch-0-after-a-step s i = step-zero s i l (record { store = w; set = v; scratch = z })
+  pub scratch_0_after_a_step : (s : List ℕ) (i : ℕ) → (step_of s i l).printed.words.scratch ≡ zeros
+  scratch_0_after_a_step s i = step_zero s i l (record { store = w; set = v; scratch = z })
 
 -- "The end line is `T` contexts, pool entries": of the store that the script leads to
 pub end : (s : List ℕ) → script_replies s ≡ (run_of s).reply ++ end_line (run_of s).words.store

@@ -16,7 +16,7 @@ use Rattle.arena.specs.Store.{end, dollar, Store, tree_of, tree, node_at}
 use Rattle.arena.specs.Trees.{tree_node}
 use Rattle.arena.specs.Place.{intern}
 use Rattle.arena.specs.Kinds.{size}
-use Rattle.arena.specs.Kinds.Laws.{intern-end, intern-dollar}
+use Rattle.arena.specs.Kinds.Laws.{intern_end, intern_dollar}
 use Rattle.arena.specs.Stands.{stands}
 use Rattle.arena.specs.Numbering.{parts, Joins}
 use Rattle.arena.specs.Numbering.Laws.{joins_determined}
@@ -30,19 +30,19 @@ use Rattle.encoding.specs.Decide.Laws.{sound_true, true_sound}
 use Rattle.encoding.specs.Decoded.{decoded}
 use Rattle.store.specs.Calls as Stores
 use Rattle.store.specs.Calls.{zeros, leaves, Accepts, fresh_call}
-use Rattle.store.specs.FreshWords.{fresh-goes, fresh-count}
+use Rattle.store.specs.FreshWords.{fresh_goes, fresh_count}
 use Rattle.store.specs.Told.{fresh_sound}
 use Rattle.interning.specs.SingletonCall.{singleton_call}
-use Rattle.interning.specs.Promises.{mark-answers-0, single-stands, single-sound-after, single-numbers}
+use Rattle.interning.specs.Promises.{mark_answers_0, single_stands, single_sound_after, single_numbers}
 use Rattle.contexts.specs.MergeCall.{merge_call}
-use Rattle.contexts.specs.Promises.{merge_by_wildcard, merge-sound-after, merge-numbers-after}
+use Rattle.contexts.specs.Promises.{merge_by_wildcard, merge_sound_after, merge_numbers_after}
 use Rattle.queries.specs.Queries.{Question, entry_count, entry_state, entry_parent, answer_to, query_call}
 use Rattle.queries.specs.Sentences as Asked
 use Rattle.sets.specs.Layout.{set_words_length, config_at, config_count, flag}
 use Rattle.sets.specs.Config.{Config}
 use Rattle.sets.specs.Sets.{key}
 use Rattle.sets.specs.Words.{set_of, SoundSet, sound_set, bit}
-use Rattle.sets.specs.Sound.{sound-set-true, true-sound-set}
+use Rattle.sets.specs.Sound.{sound_set_true, true_sound_set}
 use Rattle.sets.specs.Calls as Sets
 use Rattle.sets.specs.Calls.{Adds, fresh_set_call, add_call, close_call}
 use Rattle.configs.specs.Sentences as Added
@@ -57,13 +57,13 @@ use Rattle.outputs.specs.Outputs.Laws.{all_words}
 use Rattle.sets.specs.Listed.{configs_length}
 use Rattle.groups.specs.Single.{unique_says, viable_says}
 use Rattle.groups.specs.Conflicts.{conflict_exact}
-use Rattle.groups.specs.Equal.{equal-exact}
+use Rattle.groups.specs.Equal.{equal_exact}
 use Rattle.groups.specs.Decided.{verdict_exact, verdict_empty, conflict_empty, equal_empty, viable_empty, unique_empty}
 use Rattle.outputs.specs.Outputs.{subsets_length, alts_length, padded, group_words}
 use Rattle.verdicts.specs.Calls.{alternative, says, most_stops, conflicting_alt_subsets_call, conflicting_alts_call, unique_alt_call, single_viable_alt_call}
 use Rattle.verdicts.specs.Calls.{all_subsets_conflict_call, all_subsets_equal_call, too_many_stops, verdict_call, VerdictLeft}
 use Rattle.verdicts.specs.Sentences as Judged
-use Rattle.promises.specs.Words.{store_sound, known, asks, lent, answers, close-leaves}
+use Rattle.promises.specs.Words.{store_sound, known, asks, lent, answers, close_leaves}
 
 -- "equal the Rust's within our capacities (differential runs)": no theorem, but the gate's comparisons with the Rust that is ported, in rust/; how many contexts a call made
 -- the Rust does not say, and the oracle counts its records for it (request A3).
@@ -80,77 +80,77 @@ words_and_store w l s = (decoded w l (sound_true w l s)).1
 
 -- "A fresh store is count 1 and zeros, written over any earlier contents", and it is sound
 pub fresh_store_lem : (w : List ℕ) → length w ≡ store_words → (fresh_call w ≡ (Stores.done, set (blank store_words) 0 1)) × (sound (fresh_call w).1 ≡ true)
-fresh_store_lem w l = (fresh-count w l, rw (fresh-goes w l) fresh_sound)
+fresh_store_lem w l = (fresh_count w l, rw (fresh_goes w l) fresh_sound)
 
 -- ---- "Stacks and merges", of the contexts of a sound store
 
 module _ (w : List ℕ) (l : length w ≡ store_words) (s : sound w ≡ true) where
   -- "A context stands for a finite, non-empty set of stacks of return states."
-  pub finite-and-some : (c : ℕ) → c < contexts w
+  pub finite_and_some : (c : ℕ) → c < contexts w
       → ((σs : List (List ℕ)) × ((σ : List ℕ) → (stands (store_of w) c σ ≡ true) ↔ Memᴰ σ σs)) × ((σ : List ℕ) × (stands (store_of w) c σ ≡ true))
-  finite-and-some c h = (finite_stacks (store_of w) c, some_stack (store_of w) (store_sound w l s) c (known w c h))
+  finite_and_some c h = (finite_stacks (store_of w) c, some_stack (store_of w) (store_sound w l s) c (known w c h))
 
   -- "Context 0 stands for the set with only the empty stack."
-  pub context-0 : (stands (store_of w) 0 [] ≡ true) × ((x : ℕ) (σ : List ℕ) → stands (store_of w) 0 (x ∷ σ) ≡ false)
-  context-0 = root_stands (store_of w) (store_sound w l s) (known w 0 (omega (arith, (sound_true w l s).counted.0)))
+  pub context_0 : (stands (store_of w) 0 [] ≡ true) × ((x : ℕ) (σ : List ℕ) → stands (store_of w) 0 (x ∷ σ) ≡ false)
+  context_0 = root_stands (store_of w) (store_sound w l s) (known w 0 (omega (arith, (sound_true w l s).counted.0)))
 
   -- "An array stands for the union over its entries. The entry `$` .. is the empty stack."
-  pub each-record : (c : ℕ) → c < contexts w → (σ : List ℕ) → stands (store_of w) c σ ≡ mem (tree_of (tree (store_of w)) (node_at (store_of w) c)) σ
-  each-record c h σ = ap (λ (F : Forest). mem F σ) (tree_node (store_of w) (store_sound w l s) c (known w c h))
+  pub each_record : (c : ℕ) → c < contexts w → (σ : List ℕ) → stands (store_of w) c σ ≡ mem (tree_of (tree (store_of w)) (node_at (store_of w) c)) σ
+  each_record c h σ = ap (λ (F : Forest). mem F σ) (tree_node (store_of w) (store_sound w l s) c (known w c h))
 
   -- "An interned list .. of one other entry, a singleton; of two or more, an array."
   pub one_entry : (c : ℕ) → c < contexts w → 0 < c → size (node_at (store_of w) c) ≡ 1 → kind w c ≡ 1
-  one_entry c h = Asked.one-is-singleton w c (asks w l s c h)
+  one_entry c h = Asked.one_is_singleton w c (asks w l s c h)
 
-  pub more-entries : (c : ℕ) → c < contexts w → 2 ≤ size (node_at (store_of w) c) → kind w c ≡ 2
-  more-entries c h = Asked.more-are-array w c (asks w l s c h)
+  pub more_entries : (c : ℕ) → c < contexts w → 2 ≤ size (node_at (store_of w) c) → kind w c ≡ 2
+  more_entries c h = Asked.more_are_array w c (asks w l s c h)
 
   -- "An interned list of no entries, or of `$` alone, is context 0"
   pub no_entries : (intern (store_of w) end ≡ (0, store_of w)) × (intern (store_of w) dollar ≡ (0, store_of w))
   no_entries =
       let some = known w 0 (omega (arith, (sound_true w l s).counted.0)) in
-      (intern-end (store_of w) (store_sound w l s) some, intern-dollar (store_of w) (store_sound w l s) some)
+      (intern_end (store_of w) (store_sound w l s) some, intern_dollar (store_of w) (store_sound w l s) some)
 
   -- a query answers of the context's entries and of its stacks: how many entries; is it the set of the empty stack alone; is the empty stack in it
-  pub queries-answer : (q : Question) (z : List ℕ) → length z ≡ scratch_words → (c : ℕ) → c < contexts w → (query_call q w z c).reply ≡ answer_to q (store_of w) c
-  queries-answer q z lz c h = ap (λ (x : Stores.Left). x.reply) (answers w z c (answer_to q (store_of w) c) l lz s h)
+  pub queries_answer : (q : Question) (z : List ℕ) → length z ≡ scratch_words → (c : ℕ) → c < contexts w → (query_call q w z c).reply ≡ answer_to q (store_of w) c
+  queries_answer q z lz c h = ap (λ (x : Stores.Left). x.reply) (answers w z c (answer_to q (store_of w) c) l lz s h)
 
   -- "Queries": "`return_state` of a `$`, context 0's at 0 included, is the empty mark; `parent` of context 0 is none at every index .. Context 0
   -- has one entry."
-  pub queries-of-0 : (answer_to entry_count (store_of w) 0 ≡ Stores.count 1) × (answer_to (entry_state 0) (store_of w) 0 ≡ Stores.state empty_mark)
+  pub queries_of_0 : (answer_to entry_count (store_of w) 0 ≡ Stores.count 1) × (answer_to (entry_state 0) (store_of w) 0 ≡ Stores.state empty_mark)
       × ((i : ℕ) → answer_to (entry_parent i) (store_of w) 0 ≡ Stores.none)
-  queries-of-0 = let v = sound_true w l s in (ap Stores.count (Asked.root-one w l v), Asked.root-state w l v, Asked.root-parent w l v)
+  queries_of_0 = let v = sound_true w l s in (ap Stores.count (Asked.root_one w l v), Asked.root_state w l v, Asked.root_parent w l v)
 
   -- "`return_state` of a `$` .. is the empty mark .. yet the parent of an array's `$` is 0."
-  pub queries-of-dollar : (c i : ℕ) → c < contexts w → kind w c ≡ 2 → i < second w c → state w (first w c + i) ≡ stop
+  pub queries_of_dollar : (c i : ℕ) → c < contexts w → kind w c ≡ 2 → i < second w c → state w (first w c + i) ≡ stop
       → (answer_to (entry_state i) (store_of w) c ≡ Stores.state empty_mark) × (answer_to (entry_parent i) (store_of w) c ≡ Stores.context 0)
-  queries-of-dollar c i h e k d =
-      let n = asks w l s c h in (Asked.dollar-state w c n i e k d, Asked.dollar-parent w c n i e k d)
+  queries_of_dollar c i h e k d =
+      let n = asks w l s c h in (Asked.dollar_state w c n i e k d, Asked.dollar_parent w c n i e k d)
 
   -- "An index past the end is none."
-  pub queries-past-the-end : (c i : ℕ) → c < contexts w → size (node_at (store_of w) c) ≤ i
+  pub queries_past_the_end : (c i : ℕ) → c < contexts w → size (node_at (store_of w) c) ≤ i
       → (answer_to (entry_state i) (store_of w) c ≡ Stores.none) × (answer_to (entry_parent i) (store_of w) c ≡ Stores.none)
-  queries-past-the-end c i h k =
-      let n = asks w l s c h in (Asked.past-state w c n i k, Asked.past-parent w c n i k)
+  queries_past_the_end c i h k =
+      let n = asks w l s c h in (Asked.past_state w c n i k, Asked.past_parent w c n i k)
 
 -- ---- an accepted singleton
 
 module _ (w z : List ℕ) (p r c : ℕ) (w' : List ℕ) (ok : Accepts (singleton_call w z p r) c w') where
   -- "A singleton (parent p, state r) stands for r placed on top of each stack of p."
   pub singleton_stands : r < stop → (stands (store_of w') c [] ≡ false) × ((x : ℕ) (σ : List ℕ) → stands (store_of w') c (x ∷ σ) ≡ (eqb r x && stands (store_of w) p σ))
-  singleton_stands = single-stands w z p r c w' ok
+  singleton_stands = single_stands w z p r c w' ok
 
   -- "The empty mark 18446744073709551615 answers 0", and nothing is made
-  pub singleton-of-the-mark : r ≡ empty_mark → (c ≡ 0) × (w' ≡ w)
-  singleton-of-the-mark = mark-answers-0 w z p r c w' ok
+  pub singleton_of_the_mark : r ≡ empty_mark → (c ≡ 0) × (w' ≡ w)
+  singleton_of_the_mark = mark_answers_0 w z p r c w' ok
 
   -- the number is in a sound store afterwards
-  pub singleton-sound : (length w' ≡ store_words) × (sound w' ≡ true) × (c < contexts w')
-  singleton-sound = single-sound-after w z p r c w' ok
+  pub singleton_sound : (length w' ≡ store_words) × (sound w' ≡ true) × (c < contexts w')
+  singleton_sound = single_sound_after w z p r c w' ok
 
   -- "New contexts take the next number .. and nothing else is made."
-  pub singleton-numbers : r < stop → Joins (store_of w) (parts (over r (tree (store_of w) p) Forests.none)) (store_of w')
-  singleton-numbers = single-numbers w z p r c w' ok
+  pub singleton_numbers : r < stop → Joins (store_of w) (parts (over r (tree (store_of w) p) Forests.none)) (store_of w')
+  singleton_numbers = single_numbers w z p r c w' ok
 
 -- ---- an accepted merge
 
@@ -169,67 +169,67 @@ no_choice_by_wildcard {D = D} c d = wildcard_determined c D d
 
 module _ (w z : List ℕ) (a b : ℕ) (m : Bool) (c : ℕ) (w' : List ℕ) (ok : Accepts (merge_call w z a b m) c w') where
   -- the number is in a sound store afterwards
-  pub merge-sound : (length w' ≡ store_words) × (sound w' ≡ true) × (c < contexts w')
-  merge-sound = merge-sound-after w z a b m c w' ok
+  pub merge_sound : (length w' ≡ store_words) × (sound w' ≡ true) × (c < contexts w')
+  merge_sound = merge_sound_after w z a b m c w' ok
 
   -- "New contexts take the next number: inner merges go in rising order of top state, each before the context above it, and nothing else is made."
   pub merge_numbers : Joins (store_of w) (parts (merge_t m (tree (store_of w) a) (tree (store_of w) b))) (store_of w')
-  merge_numbers = merge-numbers-after w z a b m c w' ok
+  merge_numbers = merge_numbers_after w z a b m c w' ok
 
 -- ---- config sets
 
 pub set_sound_exactly_by_the_clauses : (k : ℕ) (v : List ℕ) → length v ≡ set_words_length → (sound_set k v ≡ true) ↔ SoundSet k v
-set_sound_exactly_by_the_clauses k v l = (sound-set-true k v, true-sound-set k v l)
+set_sound_exactly_by_the_clauses k v l = (sound_set_true k v, true_sound_set k v l)
 
 -- "A fresh set is flag 1 or 0 and else zeros, over any contents."
 pub fresh_set_lem : (v : List ℕ) (f : Bool) (v' : List ℕ) → fresh_set_call v f ≡ (Sets.done, v')
     → (get_or v' 1 0 ≡ bit f 1) × ((j : ℕ) → j < set_words_length → (j ≡ 1 → ⊥) → get_or v' j 0 ≡ 0) × ((k : ℕ) → SoundSet k v')
-fresh_set_lem v f v' ok = (Added.fresh-flag v f v' ok, Added.fresh-zeros v f v' ok, Added.fresh_sound v f v' ok)
+fresh_set_lem v f v' ok = (Added.fresh_flag v f v' ok, Added.fresh_zeros v f v' ok, Added.fresh_sound v f v' ok)
 
 module _ (w v z : List ℕ) (x : Config) (a : ℕ) (w' v' : List ℕ) (ok : Adds (add_call w v z x) a w' v') where
   -- "On a known key the contexts are merged (wildcard unless flag 1), reach becomes the larger, bit 31 the OR of both, answer "merged".": 0
   module _ (i : ℕ) (here : i < config_count v) (same : key (config_at v i) ≡ key x) where
-    pub add-merges : (a ≡ 0) × (config_count v' ≡ config_count v) × (key (config_at v' i) ≡ key x)
+    pub add_merges : (a ≡ 0) × (config_count v' ≡ config_count v) × (key (config_at v' i) ≡ key x)
         × Accepts (merge_call w z (config_at v i).context x.context (not (flag 1 v))) (config_at v' i).context w'
         × ((config_at v' i).reach ≡ max (config_at v i).reach x.reach)
         × (mark_of (config_at v' i).provenance ≡ max (mark_of (config_at v i).provenance) (mark_of x.provenance))
         × ((j : ℕ) → j < config_count v → (j ≡ i → ⊥) → config_at v' j ≡ config_at v j)
-    add-merges = (
-      Added.merged-answer w v z x a w' v' ok i here same,
-      Added.merged-count w v z x a w' v' ok i here same,
-      Added.merged-key w v z x a w' v' ok i here same,
-      Added.merged-accepted w v z x a w' v' ok i here same,
-      Added.merged-reach w v z x a w' v' ok i here same,
-      Added.merged-mark w v z x a w' v' ok i here same,
-      Added.merged-others w v z x a w' v' ok i here same,
+    add_merges = (
+      Added.merged_answer w v z x a w' v' ok i here same,
+      Added.merged_count w v z x a w' v' ok i here same,
+      Added.merged_key w v z x a w' v' ok i here same,
+      Added.merged_accepted w v z x a w' v' ok i here same,
+      Added.merged_reach w v z x a w' v' ok i here same,
+      Added.merged_mark w v z x a w' v' ok i here same,
+      Added.merged_others w v z x a w' v' ok i here same,
     )
 
     -- the config's context stands for the union of both in a full-context set, and for document 01's wildcard merge in another
-    pub add-stands : (flag 1 v ≡ true → (σ : List ℕ)
+    pub add_stands : (flag 1 v ≡ true → (σ : List ℕ)
         → stands (store_of w') (config_at v' i).context σ ≡ (stands (store_of w) (config_at v i).context σ || stands (store_of w) x.context σ))
         × (flag 1 v ≡ false → WildcardMerge (stands (store_of w) (config_at v i).context) (stands (store_of w) x.context) (stands (store_of w') (config_at v' i).context))
-    add-stands =
-        let r = Added.merged-stands w v z x a w' v' ok i here same in
+    add_stands =
+        let r = Added.merged_stands w v z x a w' v' ok i here same in
         (λ e. rw e at r, λ e. rw e at r)
 
   -- "Otherwise the config goes last, answer "inserted".": 1
-  pub add-inserts : ((i : ℕ) → i < config_count v → key (config_at v i) ≡ key x → ⊥)
+  pub add_inserts : ((i : ℕ) → i < config_count v → key (config_at v i) ≡ key x → ⊥)
       → (a ≡ 1) × (w' ≡ w) × (config_count v' ≡ suc (config_count v)) × (config_at v' (config_count v) ≡ x)
       × ((j : ℕ) → j < config_count v → config_at v' j ≡ config_at v j)
-  add-inserts new = (
-    Added.inserted-answer w v z x a w' v' ok new,
-    Added.inserted-store w v z x a w' v' ok new,
-    Added.inserted-count w v z x a w' v' ok new,
-    Added.inserted-last w v z x a w' v' ok new,
-    Added.inserted-others w v z x a w' v' ok new,
+  add_inserts new = (
+    Added.inserted_answer w v z x a w' v' ok new,
+    Added.inserted_store w v z x a w' v' ok new,
+    Added.inserted_count w v z x a w' v' ok new,
+    Added.inserted_last w v z x a w' v' ok new,
+    Added.inserted_others w v z x a w' v' ok new,
   )
 
   -- store and set are sound afterwards, and the set's own flags are as they were
-  pub add-sound : (sound w' ≡ true) × SoundSet (contexts w') v' × (flag 1 v' ≡ flag 1 v) × (flag 8 v' ≡ false)
-  add-sound = (
-    (Added.sound-after w v z x a w' v' ok).0,
-    (Added.sound-after w v z x a w' v' ok).1,
-    Added.full-kept w v z x a w' v' ok,
+  pub add_sound : (sound w' ≡ true) × SoundSet (contexts w') v' × (flag 1 v' ≡ flag 1 v) × (flag 8 v' ≡ false)
+  add_sound = (
+    (Added.sound_after w v z x a w' v' ok).0,
+    (Added.sound_after w v z x a w' v' ok).1,
+    Added.full_kept w v z x a w' v' ok,
     Added.open_after w v z x a w' v' ok,
   )
 
@@ -238,12 +238,12 @@ pub close_sets_flag_8 : (w v z w' v' : List ℕ) → ((close_call w v z).reply �
     → (w' ≡ w) × (flag 8 v' ≡ true) × (flag 1 v' ≡ flag 1 v) × (config_count v' ≡ config_count v)
     × ((j : ℕ) → j < config_count v → config_at v' j ≡ config_at v j) × SoundSet (contexts w) v'
 close_sets_flag_8 w v z w' v' ok = (
-  Added.closed-store w v z w' v' (close-leaves w v z w' v' ok),
-  Added.closed-flag w v z w' v' (close-leaves w v z w' v' ok),
-  Added.closed-full w v z w' v' (close-leaves w v z w' v' ok),
-  Added.closed-count w v z w' v' (close-leaves w v z w' v' ok),
-  Added.closed-configs w v z w' v' (close-leaves w v z w' v' ok),
-  Added.closed-sound w v z w' v' (close-leaves w v z w' v' ok),
+  Added.closed_store w v z w' v' (close_leaves w v z w' v' ok),
+  Added.closed_flag w v z w' v' (close_leaves w v z w' v' ok),
+  Added.closed_full w v z w' v' (close_leaves w v z w' v' ok),
+  Added.closed_count w v z w' v' (close_leaves w v z w' v' ok),
+  Added.closed_configs w v z w' v' (close_leaves w v z w' v' ok),
+  Added.closed_sound w v z w' v' (close_leaves w v z w' v' ok),
 )
 
 -- ---- subsets, alternatives and the verdict, of sound words
@@ -258,18 +258,18 @@ module _ (w v z : List ℕ) (lw : length w ≡ store_words) (lv : length v ≡ s
   pub subsets : (o : List ℕ) → length o ≡ subsets_length
       → Subsets (set_of v).configs (groups (set_of v).configs)
       × ((conflicting_alt_subsets_call w v z o).output ≡ padded subsets_length (length (groups (set_of v).configs) ∷ flat_map group_words (groups (set_of v).configs)))
-  subsets = Judged.subsets-written w v z (lent w v z lw lv lz s t)
+  subsets = Judged.subsets_written w v z (lent w v z lw lv lz s t)
 
   -- "`conflicting_alts`, the union of the groups with two or more, goes to 257 words"
   pub conflicting : (o : List ℕ) → length o ≡ alts_length
       → ConflictUnion (groups (set_of v).configs) (conflicting_alts (set_of v).configs)
       × ((conflicting_alts_call w v z o).output ≡ padded alts_length (length (conflicting_alts (set_of v).configs) ∷ conflicting_alts (set_of v).configs))
-  conflicting = Judged.alts-written w v z (lent w v z lw lv lz s t)
+  conflicting = Judged.alts_written w v z (lent w v z lw lv lz s t)
 
   -- 1,025 and 257 words are enough
-  pub outputs-suffice : (length (length (groups (set_of v).configs) ∷ flat_map group_words (groups (set_of v).configs)) ≤ subsets_length)
+  pub outputs_suffice : (length (length (groups (set_of v).configs) ∷ flat_map group_words (groups (set_of v).configs)) ≤ subsets_length)
       × (length (length (conflicting_alts (set_of v).configs) ∷ conflicting_alts (set_of v).configs) ≤ alts_length)
-  outputs-suffice =
+  outputs_suffice =
       let n = configs_length v (config_count v) in (
         omega (arith, all_words (groups (set_of v).configs), groups_fit (set_of v).configs (omega (arith, n, t.counted))),
         omega (arith, conflicting_most (set_of v).configs, n, t.counted),
@@ -294,7 +294,7 @@ module _ (w v z : List ℕ) (lw : length w ≡ store_words) (lv : length v ≡ s
   pub equal : ((all_subsets_equal_call w v z).reply ≡ says (all_subsets_equal (set_of v).configs))
       × ((all_subsets_equal (set_of v).configs ≡ true) ↔ AllEqual (groups (set_of v).configs))
   unfolding all_subsets_equal_call
-  equal = (ap (λ (x : VerdictLeft). x.reply) (Judged.answered w v z (lent w v z lw lv lz s t) 0 [] refl [] tt _ []), equal-exact (set_of v).configs)
+  equal = (ap (λ (x : VerdictLeft). x.reply) (Judged.answered w v z (lent w v z lw lv lz s t) 0 [] refl [] tt _ []), equal_exact (set_of v).configs)
 
   -- "Verdict: yes if every config is in a listed stop state, an empty set included. Else yes exactly if some subset has two or more alternatives
   -- and no state has just one."

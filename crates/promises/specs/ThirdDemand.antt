@@ -8,9 +8,9 @@ use Rattle.layout.specs.Decode.{store_of}
 use Rattle.encoding.specs.Decide.{sound}
 use Rattle.store.specs.Calls.{Accepts}
 use Rattle.interning.specs.SingletonCall.{singleton_call}
-use Rattle.interning.specs.Promises.{single-older-kept}
+use Rattle.interning.specs.Promises.{single_older_kept}
 use Rattle.contexts.specs.MergeCall.{merge_call}
-use Rattle.contexts.specs.Promises.{equal_exactly, merge_is_union, older-kept, sides_exchanged}
+use Rattle.contexts.specs.Promises.{equal_exactly, merge_is_union, older_kept, sides_exchanged}
 use Rattle.runs.specs.Runs.{Event, Run, SameContexts, Answers}
 use Rattle.runs.specs.Growth.{run_grows}
 use Rattle.runs.specs.Grouping.{one_number}

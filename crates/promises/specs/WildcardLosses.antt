@@ -9,7 +9,7 @@ use Rattle.arena.specs.Store.{tree}
 use Rattle.layout.specs.Decode.{store_of}
 use Rattle.store.specs.Calls.{Accepts}
 use Rattle.contexts.specs.MergeCall.{merge_call}
-use Rattle.contexts.specs.Promises.{merge_by_wildcard, sides-canon}
+use Rattle.contexts.specs.Promises.{merge_by_wildcard, sides_canon}
 
 -- a and b are merged to c by wildcard, w and v are the words of the store before and after
 module _ (w z : List ℕ) (a b c : ℕ) (v : List ℕ) (ok : Accepts (merge_call w z a b true) c v) where
@@ -27,11 +27,11 @@ module _ (w z : List ℕ) (a b c : ℕ) (v : List ℕ) (ok : Accepts (merge_call
   held_by_both = Losses.held_by_both (merge_by_wildcard w z a b c v ok)
 
   -- What is lost: a stack of one side is lost exactly if the other side ends at a shorter beginning of it.
-  pub lost-of-the-left : (σ : List ℕ) → stands (store_of w) a σ ≡ true
+  pub lost_of_the_left : (σ : List ℕ) → stands (store_of w) a σ ≡ true
       → (stands (store_of v) c σ ≡ false) ↔ ((ρ : List ℕ) × BeginsWith σ ρ × (ρ ≡ σ → ⊥) × EndsAt (stands (store_of w) b) ρ)
-  lost-of-the-left = Losses.lost_exactly (tree (store_of w) b) (sides-canon w z a b true c v ok).1 (merge_by_wildcard w z a b c v ok)
+  lost_of_the_left = Losses.lost_exactly (tree (store_of w) b) (sides_canon w z a b true c v ok).1 (merge_by_wildcard w z a b c v ok)
 
-  pub lost-of-the-right : (σ : List ℕ) → stands (store_of w) b σ ≡ true
+  pub lost_of_the_right : (σ : List ℕ) → stands (store_of w) b σ ≡ true
       → (stands (store_of v) c σ ≡ false) ↔ ((ρ : List ℕ) × BeginsWith σ ρ × (ρ ≡ σ → ⊥) × EndsAt (stands (store_of w) a) ρ)
-  lost-of-the-right =
-      Losses.lost_exactly (tree (store_of w) a) (sides-canon w z a b true c v ok).0 (Losses.exchanged (merge_by_wildcard w z a b c v ok))
+  lost_of_the_right =
+      Losses.lost_exactly (tree (store_of w) a) (sides_canon w z a b true c v ok).0 (Losses.exchanged (merge_by_wildcard w z a b c v ok))

@@ -23,7 +23,7 @@ use Rattle.sets.specs.Words.{SoundSet}
 use Rattle.sets.specs.Config.{Config}
 use Rattle.sets.specs.Calls.{SetReply, refused, done, SetLeft, set_left, set_left_after, lent_lengths, lent_checks, close_call}
 use Rattle.sets.specs.Calls.{refusal as setRefusal}
-use Rattle.sets.specs.Refusals.{SoundLent, refusal-reply}
+use Rattle.sets.specs.Refusals.{SoundLent, refusal_reply}
 
 pub good : (w : List ℕ) → length w ≡ store_words → sound w ≡ true → GoodStore (store_of w)
 good w l s = (decoded w l (sound_true w l s)).0
@@ -39,7 +39,7 @@ asks w l s c h = record { sized = l; sound = sound_true w l s; below = h }
 
 pub lent : (w v z : List ℕ) → length w ≡ store_words → length v ≡ set_words_length → length z ≡ scratch_words → SoundWords w → SoundSet (contexts w) v
     → SoundLent w v z
-lent w v z lw lv lz s t = record { store_length = lw; set-length = lv; scratch-length = lz; store_sound = s; set-sound = t }
+lent w v z lw lv lz s t = record { store_length = lw; set_length = lv; scratch_length = lz; store_sound = s; set_sound = t }
 
 -- a query on a known context of sound words answers
 pub answers : (w z : List ℕ) (c : ℕ) (r : Reply) → length w ≡ store_words → length z ≡ scratch_words → sound w ≡ true → c < contexts w
@@ -63,13 +63,13 @@ module _ (w v z : List ℕ) where
       → (unless cs (setRefusal w v z) go).reply ≡ r → (unless cs (setRefusal w v z) go).store ≡ w' → (unless cs (setRefusal w v z) go).set ≡ v'
       → unless cs (setRefusal w v z) go ≡ set_left r w' v' zeros
   accepted cs go r w' v' none k m f a b c =
-      let e = (clear_of (setRefusal w v z) go (λ n x. x.reply ≡ refused n) (refusal-reply w v z) cs (λ n g. none n (sym a ∙ g))).1 in
+      let e = (clear_of (setRefusal w v z) go (λ n x. x.reply ≡ refused n) (refusal_reply w v z) cs (λ n g. none n (sym a ∙ g))).1 in
       e ∙ same_left go r w' v' (ap (λ (x : SetLeft). x.reply) (sym e) ∙ a) (ap (λ (x : SetLeft). x.store) (sym e) ∙ b) (ap (λ (x : SetLeft). x.set) (sym e) ∙ c) k m f
 
-  pub close-leaves : (w' v' : List ℕ) → ((close_call w v z).reply ≡ done) × ((close_call w v z).store ≡ w') × ((close_call w v z).set ≡ v')
+  pub close_leaves : (w' v' : List ℕ) → ((close_call w v z).reply ≡ done) × ((close_call w v z).store ≡ w') × ((close_call w v z).set ≡ v')
       → close_call w v z ≡ set_left done w' v' zeros
   unfolding close_call
-  close-leaves w' v' ok = accepted (lent_checks (lent_lengths w v z) w v []) _ done w' v' (λ n e. never (cc)) refl refl refl ok.0 ok.1 ok.2
+  close_leaves w' v' ok = accepted (lent_checks (lent_lengths w v z) w v []) _ done w' v' (λ n e. never (cc)) refl refl refl ok.0 ok.1 ok.2
 
 -- ---- a check in words
 

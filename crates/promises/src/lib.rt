@@ -1,1 +1,2 @@
 // What is promised, in one place: theorems alone.
+#![tactic(auto)]

@@ -4,7 +4,7 @@ use Rattle.std.specs.Prelude.{◌≡◌, Bool, List, ℕ, eqb}
 use Rattle.verdicts.specs.Calls.{VerdictReply, VerdictLeft}
 use Rattle.sets.specs.Calls.{SetReply, SetLeft}
 use Rattle.store.specs.Calls.{Reply, Left}
-use Rattle.answers.specs.Answers.{countedOf}
+use Rattle.answers.specs.Answers.{counted_of}
 use Rattle.answers.specs.SetAnswers.{set_counted_of}
 use Rattle.answers.specs.declared.structs.CountedAnswer.{CountedAnswer}
 
@@ -18,7 +18,7 @@ Opens of x a w z = (a ≡ of x.reply) × (w ≡ x.store) × (z ≡ x.scratch)
 
 -- with the merges that it counts and the contexts that it makes
 abbrev pub OpensCounted : Left → CountedAnswer → List ℕ → List ℕ → Type 0
-OpensCounted x a w z = (a ≡ countedOf x) × (w ≡ x.store) × (z ≡ x.scratch)
+OpensCounted x a w z = (a ≡ counted_of x) × (w ≡ x.store) × (z ≡ x.scratch)
 
 -- the same of a call on a set
 abbrev pub OpensSet : {A : Type 0} → (SetReply → A) → SetLeft → A → List ℕ → List ℕ → List ℕ → Type 0

@@ -1,4 +1,6 @@
 // The doors: each call as a C function over plain numbers and slices.
+#![tactic(auto)]
+
 mod adding;
 mod asking;
 mod judging;

@@ -20,12 +20,12 @@ decided Yes = holds true
 decided No = holds false
 decided (notDecided f) = refused (number f)
 
-abbrev pub stateFound : StateFound → Reply
-stateFound (State s) = state s.0
-stateFound noState = none
-stateFound (notState f) = refused (number f)
+abbrev pub state_found : StateFound → Reply
+state_found (State s) = state s.0
+state_found noState = none
+state_found (notState f) = refused (number f)
 
-abbrev pub parentFound : ParentFound → Reply
-parentFound (Parent p) = context p.0
-parentFound noParent = none
-parentFound (notParent f) = refused (number f)
+abbrev pub parent_found : ParentFound → Reply
+parent_found (Parent p) = context p.0
+parent_found noParent = none
+parent_found (notParent f) = refused (number f)

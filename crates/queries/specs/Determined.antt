@@ -14,7 +14,7 @@ use Rattle.queries.specs.declared.answers.StateFound.TheVariants.{State, Nothing
 use Rattle.queries.specs.declared.answers.ParentFound.{ParentFound}
 use Rattle.queries.specs.declared.answers.ParentFound.TheVariants.{Parent, Nothing as noParent, Refused as notParent}
 use Rattle.queries.specs.Queries.{entry_count, is_empty, has_empty_path, entry_state, entry_parent, query_call}
-use Rattle.queries.specs.Answers.{counted, decided, stateFound, parentFound}
+use Rattle.queries.specs.Answers.{counted, decided, state_found, parent_found}
 
 -- ---- a reply tells the answer
 
@@ -35,7 +35,7 @@ decided_tells (notDecided f) Yes e = cc
 decided_tells (notDecided f) No e = cc
 decided_tells (notDecided f) (notDecided g) e = ap notDecided (number_tells f g e)
 
-state_tells : (a b : StateFound) → stateFound a ≡ stateFound b → a ≡ b
+state_tells : (a b : StateFound) → state_found a ≡ state_found b → a ≡ b
 state_tells (State s) (State t) e =
     let n : s.0 ≡ t.0 = cc in
     ap (λ (k : ℕ). State (record { 0 = k })) n
@@ -48,7 +48,7 @@ state_tells (notState f) (State t) e = cc
 state_tells (notState f) noState e = cc
 state_tells (notState f) (notState g) e = ap notState (number_tells f g e)
 
-parent_tells : (a b : ParentFound) → parentFound a ≡ parentFound b → a ≡ b
+parent_tells : (a b : ParentFound) → parent_found a ≡ parent_found b → a ≡ b
 parent_tells (Parent p) (Parent q) e =
     let n : p.0 ≡ q.0 = cc in
     ap (λ (k : ℕ). Parent (record { 0 = k })) n
@@ -69,26 +69,26 @@ same_left x y w u v l p q =
     (ap (λ (o : Left). o.reply) e, ap (λ (o : Left). o.scratch) e)
 
 module _ (w z : List ℕ) (c : ℕ) (u v : List ℕ) where
-  pub len-determined : (a b : Counted) → leaves (counted a) w u ≡ query_call entry_count w z c → leaves (counted b) w v ≡ query_call entry_count w z c → (a ≡ b) × (u ≡ v)
-  len-determined a b p q = let s = same_left (counted a) (counted b) w u v (query_call entry_count w z c) p q in (counted_tells a b s.0, s.1)
+  pub len_determined : (a b : Counted) → leaves (counted a) w u ≡ query_call entry_count w z c → leaves (counted b) w v ≡ query_call entry_count w z c → (a ≡ b) × (u ≡ v)
+  len_determined a b p q = let s = same_left (counted a) (counted b) w u v (query_call entry_count w z c) p q in (counted_tells a b s.0, s.1)
 
-  pub is-empty-determined : (a b : Decided) → leaves (decided a) w u ≡ query_call is_empty w z c → leaves (decided b) w v ≡ query_call is_empty w z c
+  pub is_empty_determined : (a b : Decided) → leaves (decided a) w u ≡ query_call is_empty w z c → leaves (decided b) w v ≡ query_call is_empty w z c
       → (a ≡ b) × (u ≡ v)
-  is-empty-determined a b p q =
+  is_empty_determined a b p q =
       let s = same_left (decided a) (decided b) w u v (query_call is_empty w z c) p q in (decided_tells a b s.0, s.1)
 
-  pub has-empty-path-determined : (a b : Decided) → leaves (decided a) w u ≡ query_call has_empty_path w z c → leaves (decided b) w v ≡ query_call has_empty_path w z c
+  pub has_empty_path_determined : (a b : Decided) → leaves (decided a) w u ≡ query_call has_empty_path w z c → leaves (decided b) w v ≡ query_call has_empty_path w z c
       → (a ≡ b) × (u ≡ v)
-  has-empty-path-determined a b p q =
+  has_empty_path_determined a b p q =
       let s = same_left (decided a) (decided b) w u v (query_call has_empty_path w z c) p q in (decided_tells a b s.0, s.1)
 
   module _ (i : ℕ) where
-    pub return-state-determined : (a b : StateFound) → leaves (stateFound a) w u ≡ query_call (entry_state i) w z c → leaves (stateFound b) w v ≡ query_call (entry_state i) w z c
+    pub return_state_determined : (a b : StateFound) → leaves (state_found a) w u ≡ query_call (entry_state i) w z c → leaves (state_found b) w v ≡ query_call (entry_state i) w z c
         → (a ≡ b) × (u ≡ v)
-    return-state-determined a b p q =
-        let s = same_left (stateFound a) (stateFound b) w u v (query_call (entry_state i) w z c) p q in (state_tells a b s.0, s.1)
+    return_state_determined a b p q =
+        let s = same_left (state_found a) (state_found b) w u v (query_call (entry_state i) w z c) p q in (state_tells a b s.0, s.1)
 
-    pub parent-determined : (a b : ParentFound) → leaves (parentFound a) w u ≡ query_call (entry_parent i) w z c → leaves (parentFound b) w v ≡ query_call (entry_parent i) w z c
+    pub parent_determined : (a b : ParentFound) → leaves (parent_found a) w u ≡ query_call (entry_parent i) w z c → leaves (parent_found b) w v ≡ query_call (entry_parent i) w z c
         → (a ≡ b) × (u ≡ v)
-    parent-determined a b p q =
-        let s = same_left (parentFound a) (parentFound b) w u v (query_call (entry_parent i) w z c) p q in (parent_tells a b s.0, s.1)
+    parent_determined a b p q =
+        let s = same_left (parent_found a) (parent_found b) w u v (query_call (entry_parent i) w z c) p q in (parent_tells a b s.0, s.1)

@@ -8,7 +8,7 @@ use Rattle.arena.specs.Store.{Node, end, dollar, push, Store}
 use Rattle.arena.specs.Kinds.{size}
 use Rattle.arena.specs.Identity.{entries_stand}
 use Rattle.layout.specs.Layout.{stop}
-use Rattle.layout.specs.Listing.Laws.{Entries, listing-stop, listing-more, entries_rest, stop_last}
+use Rattle.layout.specs.Listing.Laws.{Entries, listing_stop, listing_more, entries_rest, stop_last}
 use Rattle.layout.specs.Listing.{listing}
 use Rattle.store.specs.Calls.{Reply, context, state, none}
 use Rattle.queries.specs.Queries.{entry_at, entry_parent, answer_to}
@@ -53,12 +53,12 @@ state_listing st pa i zero c j v h = absurd (omega arith)
 state_listing st pa i (suc k) c zero v h =
     let z : i + 0 ≡ i = omega arith in
     two (st i) stop
-    (λ e. rw (listing-stop st pa i k e, z, expanded_mark (st i) e))
-    (λ n. rw (listing-more st pa i k n, z, expanded_state (st i) n))
+    (λ e. rw (listing_stop st pa i k e, z, expanded_mark (st i) e))
+    (λ n. rw (listing_more st pa i k n, z, expanded_state (st i) n))
 state_listing st pa i (suc k) c (suc j) v h =
     let z : suc i + j ≡ i + suc j = omega arith in
     let later = state_listing st pa (suc i) k c j (entries_rest st pa i k c v) (omega arith) in
-    rw (listing-more st pa i k (not_last st pa i k c v (omega arith))) (later ∙ ap (λ (x : ℕ). state (expanded (st x))) z)
+    rw (listing_more st pa i k (not_last st pa i k c v (omega arith))) (later ∙ ap (λ (x : ℕ). state (expanded (st x))) z)
 
 pub parent_listing : (st pa : ℕ → ℕ) (i k c j : ℕ) → Entries st pa i k c → j < k → parent_at (listing st pa i k) j ≡ context (pa (i + j))
 unfolding entry_at
@@ -66,12 +66,12 @@ parent_listing st pa i zero c j v h = absurd (omega arith)
 parent_listing st pa i (suc k) c zero v h =
     let z : i + 0 ≡ i = omega arith in
     two (st i) stop
-    (λ e. rw (listing-stop st pa i k e, z, v.dollar i (omega arith) (omega arith) e))
-    (λ n. rw (listing-more st pa i k n, z))
+    (λ e. rw (listing_stop st pa i k e, z, v.dollar i (omega arith) (omega arith) e))
+    (λ n. rw (listing_more st pa i k n, z))
 parent_listing st pa i (suc k) c (suc j) v h =
     let z : suc i + j ≡ i + suc j = omega arith in
     let later = parent_listing st pa (suc i) k c j (entries_rest st pa i k c v) (omega arith) in
-    rw (listing-more st pa i k (not_last st pa i k c v (omega arith))) (later ∙ ap (λ (x : ℕ). context (pa x)) z)
+    rw (listing_more st pa i k (not_last st pa i k c v (omega arith))) (later ∙ ap (λ (x : ℕ). context (pa x)) z)
 
 -- the empty stack is one of theirs exactly if the last is a `$`
 pub empty_listing : (s : Store) (st pa : ℕ → ℕ) (i k c : ℕ) → Entries st pa i (suc k) c → entries_stand s (listing st pa i (suc k)) [] ≡ eqb (st (i + k)) stop
@@ -79,9 +79,9 @@ unfolding entries_stand listing
 empty_listing s st pa i zero c v =
     let z : i + 0 ≡ i = omega arith in
     two (st i) stop
-    (λ e. rw (listing-stop st pa i 0 e, z, eq-eqb (st i) stop e))
-    (λ n. rw (listing-more st pa i 0 n, z, ne_eqb (st i) stop n))
+    (λ e. rw (listing_stop st pa i 0 e, z, eq-eqb (st i) stop e))
+    (λ n. rw (listing_more st pa i 0 n, z, ne_eqb (st i) stop n))
 empty_listing s st pa i (suc k) c v =
     let z : suc i + k ≡ i + suc k = omega arith in
     let later = empty_listing s st pa (suc i) k c (entries_rest st pa i (suc k) c v) in
-    rw (listing-more st pa i (suc k) (not_last st pa i (suc k) c v (omega arith))) (later ∙ ap (λ (x : ℕ). eqb (st x) stop) z)
+    rw (listing_more st pa i (suc k) (not_last st pa i (suc k) c v (omega arith))) (later ∙ ap (λ (x : ℕ). eqb (st x) stop) z)

@@ -6,7 +6,7 @@ use Rattle.layout.specs.Decode.{store_of}
 use Rattle.store.specs.Checks.{order, due}
 use Rattle.store.specs.Checks.Laws.{in_order}
 use Rattle.store.specs.Calls.{Reply, refused, context, state, none, refusal, ask_checks}
-use Rattle.store.specs.Asks.{asked-refused-exactly, asked-refused-leaves}
+use Rattle.store.specs.Asks.{asked_refused_exactly, asked_refused_leaves}
 use Rattle.queries.specs.Queries.{Question, entry_count, is_empty, has_empty_path, entry_state, entry_parent, entry_at, answer_to, query_call}
 
 -- ---- no answer is a refusal
@@ -33,11 +33,11 @@ answers (entry_parent i) s c n e = go (eqb c 0) e
 -- ---- refused n exactly when that is due, and then all is as it was but the scratch
 
 module _ (q : Question) (w z : List ℕ) (c : ℕ) where
-  pub query-refused-exactly : (n : ℕ) → ((query_call q w z c).reply ≡ refused n) ↔ (due (ask_checks w z c) ≡ at n)
-  query-refused-exactly = asked-refused-exactly w z c (answer_to q (store_of w) c) (answers q (store_of w) c)
+  pub query_refused_exactly : (n : ℕ) → ((query_call q w z c).reply ≡ refused n) ↔ (due (ask_checks w z c) ≡ at n)
+  query_refused_exactly = asked_refused_exactly w z c (answer_to q (store_of w) c) (answers q (store_of w) c)
 
-  pub query-refused-leaves : (n : ℕ) → (query_call q w z c).reply ≡ refused n → query_call q w z c ≡ refusal w z n
-  query-refused-leaves = asked-refused-leaves w z c (answer_to q (store_of w) c) (answers q (store_of w) c)
+  pub query_refused_leaves : (n : ℕ) → (query_call q w z c).reply ≡ refused n → query_call q w z c ≡ refusal w z n
+  query_refused_leaves = asked_refused_leaves w z c (answer_to q (store_of w) c) (answers q (store_of w) c)
 
 pub ask_in_order : (w z : List ℕ) (c : ℕ) → in_order order (ask_checks w z c) ≡ true
 unfolding in_order

@@ -1,5 +1,7 @@
 // The entry queries: what a context of a lent store holds. Each is lent the scratch too, since it
 // checks the store itself, and leaves it zero.
+#![tactic(auto)]
+
 mod answers;
 mod empties;
 mod parents;

@@ -3,7 +3,7 @@ ghost use Rattle.std.specs.Prelude.{◌≡◌};
 ghost use Rattle.layout.specs.Layout.{kind};
 ghost use Rattle.layout.specs.Decode.{store_of};
 ghost use Rattle.store.specs.Calls.{leaves};
-ghost use Rattle.queries.specs.Answers.{parentFound};
+ghost use Rattle.queries.specs.Answers.{parent_found};
 ghost use Rattle.store.specs.Asks.{Known};
 ghost use Rattle.queries.specs.Queries.{entry_parent, query_call};
 ghost use Rattle.queries.specs.Listed.{parent_of};
@@ -16,7 +16,7 @@ use words::ContextId;
 // Of an array: the entry's parent, 0 for a `$`.
 fn array_parent(store: &[u32], context: usize, index: u32) -> ParentFound
     requires { Known store.now context × (kind store.now context ≡ 2) }
-    ensures { parentFound result ≡ parent_of (store_of store.now) context index }
+    ensures { parent_found result ≡ parent_of (store_of store.now) context index }
 {
     if index < layout::second_of(store, context) {
         let from = layout::first_of(store, context) as usize;
@@ -28,7 +28,7 @@ fn array_parent(store: &[u32], context: usize, index: u32) -> ParentFound
 // Of any record; that of context 0 has none.
 fn parent_at(store: &[u32], context: usize, index: u32) -> ParentFound
     requires { Known store.now context }
-    ensures { parentFound result ≡ parent_of (store_of store.now) context index }
+    ensures { parent_found result ≡ parent_of (store_of store.now) context index }
 {
     let kind = layout::kind_of(store, context);
     if kind == 0 {
@@ -45,7 +45,7 @@ fn parent_at(store: &[u32], context: usize, index: u32) -> ParentFound
 
 // What is the parent of a context's entry at an index?
 pub fn parent(store: &[u32], scratch: &mut [u32], context: ContextId, index: u32) -> ParentFound
-    ensures { leaves (parentFound result) store.now scratch.new
+    ensures { leaves (parent_found result) store.now scratch.new
         ≡ query_call (entry_parent index) store.now scratch.old context.0 }
 {
     let asked = ask(store, scratch, context);

@@ -4,7 +4,7 @@ ghost use Rattle.arena.specs.Store.{node_at};
 ghost use Rattle.layout.specs.Layout.{kind};
 ghost use Rattle.layout.specs.Decode.{store_of};
 ghost use Rattle.store.specs.Calls.{leaves};
-ghost use Rattle.queries.specs.Answers.{stateFound};
+ghost use Rattle.queries.specs.Answers.{state_found};
 ghost use Rattle.store.specs.Asks.{Known};
 ghost use Rattle.queries.specs.Queries.{entry_state, query_call};
 ghost use Rattle.queries.specs.Listed.{state_at};
@@ -17,7 +17,7 @@ use words::{CompactState, ContextId, EMPTY_RETURN_STATE, ReturnState};
 // Of an array: the entry's state, as the border shows it.
 fn array_state(store: &[u32], context: usize, index: u32) -> StateFound
     requires { Known store.now context × (kind store.now context ≡ 2) }
-    ensures { stateFound result ≡ state_at (node_at (store_of store.now) context) index }
+    ensures { state_found result ≡ state_at (node_at (store_of store.now) context) index }
 {
     if index < layout::second_of(store, context) {
         let from = layout::first_of(store, context) as usize;
@@ -30,7 +30,7 @@ fn array_state(store: &[u32], context: usize, index: u32) -> StateFound
 // Of any record; that of context 0 has one entry, a `$`.
 fn state_at(store: &[u32], context: usize, index: u32) -> StateFound
     requires { Known store.now context }
-    ensures { stateFound result ≡ state_at (node_at (store_of store.now) context) index }
+    ensures { state_found result ≡ state_at (node_at (store_of store.now) context) index }
 {
     let kind = layout::kind_of(store, context);
     if kind == 2 {
@@ -53,7 +53,7 @@ pub fn return_state(
     context: ContextId,
     index: u32,
 ) -> StateFound
-    ensures { leaves (stateFound result) store.now scratch.new
+    ensures { leaves (state_found result) store.now scratch.new
         ≡ query_call (entry_state index) store.now scratch.old context.0 }
 {
     let asked = ask(store, scratch, context);

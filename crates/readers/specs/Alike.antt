@@ -9,7 +9,7 @@ use Rattle.sets.specs.Layout.{most_configs}
 use Rattle.sets.specs.Sets.{Set, with_configs, key, same_keys, held, joined, joined_all}
 use Rattle.groups.specs.Groups.{Group}
 use Rattle.groups.specs.Reason.{Reason}
-use Rattle.groups.specs.Renamed.{Each, none, more, each-length, moved, Twin, twin, TwinGroup, twin_group, TwinReason, twin_stop, twin_none, twin_one, twin_clash}
+use Rattle.groups.specs.Renamed.{Each, none, more, each_length, moved, Twin, twin, TwinGroup, twin_group, TwinReason, twin_stop, twin_none, twin_one, twin_clash}
 use Rattle.readers.specs.Calls.{Plain, Part, part, Got, refused, context, groups, plain, reasoned}
 use Rattle.readers.specs.Runs.{heard}
 use Rattle.readers.specs.Pure.{part_of}
@@ -21,9 +21,9 @@ module _ {A : Type 0} (P : A → A → Type 0) where
   each_append none m = m
   each_append (more r l) m = more r (each_append l m)
 
-  pub each-wider : (Q : A → A → Type 0) → ((x y : A) → P x y → Q x y) → {xs ys : List A} → Each P xs ys → Each Q xs ys
-  each-wider Q h none = none
-  each-wider Q h (more {x} {y} r l) = more (h x y r) (each-wider Q h l)
+  pub each_wider : (Q : A → A → Type 0) → ((x y : A) → P x y → Q x y) → {xs ys : List A} → Each P xs ys → Each Q xs ys
+  each_wider Q h none = none
+  each_wider Q h (more {x} {y} r l) = more (h x y r) (each_wider Q h l)
 
   pub each_map : {B : Type 0} (Q : B → B → Type 0) (f g : A → B) → ((x y : A) → P x y → Q (f x) (g y)) → {xs ys : List A} → Each P xs ys → Each Q (map f xs) (map g ys)
   each_map Q f g h none = none
@@ -61,7 +61,7 @@ twin_wider : (R Q : Rel) → ((c d : ℕ) → R c d → Q c d) → (x y : Config
 twin_wider R Q wider x y (twin z d r) = twin z d (wider z.context d r)
 
 pub configs_wider : (R Q : Rel) → ((c d : ℕ) → R c d → Q c d) → {xs ys : List Config} → Each (Twin R) xs ys → Each (Twin Q) xs ys
-configs_wider R Q wider l = each-wider (Twin R) (Twin Q) (twin_wider R Q wider) l
+configs_wider R Q wider l = each_wider (Twin R) (Twin Q) (twin_wider R Q wider) l
 
 pub sets_wider : (R Q : Rel) → ((c d : ℕ) → R c d → Q c d) → {S T : Set} → Sets R S T → Sets Q S T
 sets_wider R Q wider (set S l) = set S (configs_wider R Q wider l)
@@ -70,33 +70,33 @@ module _ (R : Rel) where
   -- ---- answers
 
   -- where 0 is alike with itself, so is what is named
-  pub named-alike : (k : ℕ) {cs ds : List ℕ} → R 0 0 → Each R cs ds → R (get_or cs k 0) (get_or ds k 0)
-  named-alike k z none = z
-  named-alike zero z (more r l) = r
-  named-alike (suc k) z (more r l) = named-alike k z l
+  pub named_alike : (k : ℕ) {cs ds : List ℕ} → R 0 0 → Each R cs ds → R (get_or cs k 0) (get_or ds k 0)
+  named_alike k z none = z
+  named_alike zero z (more r l) = r
+  named_alike (suc k) z (more r l) = named_alike k z l
 
-  part-context : (x y : Part ℕ) → Parts R x y → R x.context y.context
-  part-context x y (parts q l r) = r
+  part_context : (x y : Part ℕ) → Parts R x y → R x.context y.context
+  part_context x y (parts q l r) = r
 
-  pub heard-alike : {p q : Got ℕ} → Gots R p q → Each R (heard p) (heard q)
+  pub heard_alike : {p q : Got ℕ} → Gots R p q → Each R (heard p) (heard q)
   unfolding heard
-  heard-alike (refusals n) = none
-  heard-alike (contexts r) = more r none
-  heard-alike (grouped l) = each_map (Parts R) R (λ g. g.context) (λ g. g.context) part-context l
-  heard-alike (plains p) = none
+  heard_alike (refusals n) = none
+  heard_alike (contexts r) = more r none
+  heard_alike (grouped l) = each_map (Parts R) R (λ g. g.context) (λ g. g.context) part_context l
+  heard_alike (plains p) = none
 
-  group-part : (x y : Group) → TwinGroup R x y → Parts R (part_of x) (part_of y)
-  group-part x y (twin_group g k r) = parts g.state g.alternatives r
+  group_part : (x y : Group) → TwinGroup R x y → Parts R (part_of x) (part_of y)
+  group_part x y (twin_group g k r) = parts g.state g.alternatives r
 
-  pub parts-alike : {l m : List Group} → Each (TwinGroup R) l m → Each (Parts R) (map part_of l) (map part_of m)
-  parts-alike l = each_map (TwinGroup R) (Parts R) part_of part_of group-part l
+  pub parts_alike : {l m : List Group} → Each (TwinGroup R) l m → Each (Parts R) (map part_of l) (map part_of m)
+  parts_alike l = each_map (TwinGroup R) (Parts R) part_of part_of group_part l
 
-  pub reason-alike : {r t : Reason} → TwinReason R r t → Gots R (reasoned r) (reasoned t)
+  pub reason_alike : {r t : Reason} → TwinReason R r t → Gots R (reasoned r) (reasoned t)
   unfolding reasoned
-  reason-alike twin_stop = plains _
-  reason-alike twin_none = plains _
-  reason-alike (twin_one s a) = plains _
-  reason-alike (twin_clash s xs r) = grouped (more (parts s xs r) none)
+  reason_alike twin_stop = plains _
+  reason_alike twin_none = plains _
+  reason_alike (twin_one s a) = plains _
+  reason_alike (twin_clash s xs r) = grouped (more (parts s xs r) none)
 
   -- ---- adding
 
@@ -104,26 +104,26 @@ module _ (R : Rel) where
   found_alike true r l = both r
   found_alike false r l = l
 
-  pub held-alike : (x : Config) (e : ℕ) {xs ys : List Config} → Each (Twin R) xs ys → Founds R (held x xs) (held (moved x e) ys)
+  pub held_alike : (x : Config) (e : ℕ) {xs ys : List Config} → Each (Twin R) xs ys → Founds R (held x xs) (held (moved x e) ys)
   unfolding held same_keys key
-  held-alike x e none = neither
-  held-alike x e (more (twin y d r) l) = found_alike (same_keys x y) r (held-alike x e l)
+  held_alike x e none = neither
+  held_alike x e (more (twin y d r) l) = found_alike (same_keys x y) r (held_alike x e l)
 
-  pick-alike : (t : Bool) {y y' u u' : Config} → Twin R y y' → Twin R u u' → Twin R (elim t [ true ↦ y | false ↦ u ]) (elim t [ true ↦ y' | false ↦ u' ])
-  pick-alike true h k = h
-  pick-alike false h k = k
+  pick_alike : (t : Bool) {y y' u u' : Config} → Twin R y y' → Twin R u u' → Twin R (elim t [ true ↦ y | false ↦ u ]) (elim t [ true ↦ y' | false ↦ u' ])
+  pick_alike true h k = h
+  pick_alike false h k = k
 
-  pub join-alike : (x : Config) (e c d : ℕ) → R c d → {xs ys : List Config} → Each (Twin R) xs ys → Each (Twin R) (joined_all x c xs) (joined_all (moved x e) d ys)
+  pub join_alike : (x : Config) (e c d : ℕ) → R c d → {xs ys : List Config} → Each (Twin R) xs ys → Each (Twin R) (joined_all x c xs) (joined_all (moved x e) d ys)
   unfolding joined_all joined same_keys key
-  join-alike x e c d h none = none
-  join-alike x e c d h (more (twin y b r) l) = more (pick-alike (same_keys x y) (twin (joined x c y) d h) (twin y b r)) (join-alike x e c d h l)
+  join_alike x e c d h none = none
+  join_alike x e c d h (more (twin y b r) l) = more (pick_alike (same_keys x y) (twin (joined x c y) d h) (twin y b r)) (join_alike x e c d h l)
 
-  any-alike : (x : Config) (e : ℕ) {xs ys : List Config} → Each (Twin R) xs ys → any (same_keys x) xs ≡ any (same_keys (moved x e)) ys
+  any_alike : (x : Config) (e : ℕ) {xs ys : List Config} → Each (Twin R) xs ys → any (same_keys x) xs ≡ any (same_keys (moved x e)) ys
   unfolding any same_keys key
-  any-alike x e none = refl
-  any-alike x e (more (twin y d r) l) = ap (λ (b : Bool). same_keys x y || b) (any-alike x e l)
+  any_alike x e none = refl
+  any_alike x e (more (twin y d r) l) = ap (λ (b : Bool). same_keys x y || b) (any_alike x e l)
 
   -- check 8 is the same
-  pub full-alike : (x : Config) (e : ℕ) {xs ys : List Config} → Each (Twin R) xs ys
+  pub full_alike : (x : Config) (e : ℕ) {xs ys : List Config} → Each (Twin R) xs ys
       → (not (any (same_keys x) xs) && leb most_configs (length xs)) ≡ (not (any (same_keys (moved x e)) ys) && leb most_configs (length ys))
-  full-alike x e l = ap₂ (λ (b : Bool) (n : ℕ). not b && leb most_configs n) (any-alike x e l) (each-length l)
+  full_alike x e l = ap₂ (λ (b : Bool) (n : ℕ). not b && leb most_configs n) (any_alike x e l) (each_length l)

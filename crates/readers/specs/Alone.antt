@@ -12,13 +12,13 @@ use Rattle.encoding.specs.Good.Laws.{fresh_good}
 use Rattle.encoding.specs.Encoded.{store_of_words}
 use Rattle.encoding.specs.Writes.{length_blank}
 use Rattle.store.specs.Calls.{Reply}
-use Rattle.store.specs.FreshWords.{fresh-goes}
+use Rattle.store.specs.FreshWords.{fresh_goes}
 use Rattle.sets.specs.Lists.{all}
 use Rattle.sets.specs.Layout.{set_words_length}
 use Rattle.sets.specs.Sets.{empty_set}
 use Rattle.sets.specs.Words.{set_words, distinct, good_set}
 use Rattle.sets.specs.Calls.{SetReply}
-use Rattle.configs.specs.Settles.{fresh-goes as fresh-set-goes}
+use Rattle.configs.specs.Settles.{fresh_goes as fresh-set-goes}
 use Rattle.groups.specs.Renamed.{none, more}
 use Rattle.groups.specs.Lists.{which}
 use Rattle.readers.specs.Calls.{Call, Lent, Sized, Got, refused, Reader, Done, step}
@@ -28,7 +28,7 @@ use Rattle.readers.specs.Pure.{State, words_after, step_is}
 use Rattle.readers.specs.Kept.{Good}
 use Rattle.readers.specs.Alike.{set}
 use Rattle.readers.specs.Twins.{Like, Own, Both, after}
-use Rattle.readers.specs.Turns.{moved, put_same, put_other, known-left, after-left, Inside, stays-inside, pure_from, alone_from}
+use Rattle.readers.specs.Turns.{moved, put_same, put_other, known_left, after_left, Inside, stays_inside, pure_from, alone_from}
 
 -- ---- what words hold
 
@@ -46,28 +46,28 @@ module _ (L : Lent) (sized : Sized L) (w : List ℕ) (Rs : ℕ → Reader) (s : 
   abbrev made : State
   made = after s (Ps k) x
 
-  pub call-is : step L w (Rs k) x ≡ words_after made
-  call-is =
+  pub call_is : step L w (Rs k) x ≡ words_after made
+  call_is =
       let here = h.inside k in
       ap (λ (u : List ℕ). step L u (Rs k) x) h.store ∙ ap (λ (R : Reader). step L (words_of s) R x) (h.readers k)
-      ∙ step_is s here.left.store (Ps k).set here.left.set L sized (Ps k).names (known-left s s (Ps k) (Ps k) here) x
+      ∙ step_is s here.left.store (Ps k).set here.left.set L sized (Ps k).names (known_left s s (Ps k) (Ps k) here) x
 
-  pub seen-is : see (store_of (step L w (Rs k) x).store) (step L w (Rs k) x).got ≡ see made.store made.got
-  seen-is =
-      let good = (after-left s s (Ps k) (Ps k) (h.inside k) x).good.store in
-      ap (λ (D : Done). see (store_of D.store) D.got) call-is ∙ ap (λ (u : Store). see u made.got) (store_of_words made.store good)
+  pub seen_is : see (store_of (step L w (Rs k) x).store) (step L w (Rs k) x).got ≡ see made.store made.got
+  seen_is =
+      let good = (after_left s s (Ps k) (Ps k) (h.inside k) x).good.store in
+      ap (λ (D : Done). see (store_of D.store) D.got) call_is ∙ ap (λ (u : Store). see u made.got) (store_of_words made.store good)
 
   own_is : Runs.after (Rs k) (step L w (Rs k) x) ≡ reader_of (moved (Ps k) made)
-  own_is = ap (λ (D : Done). Runs.after (Rs k) D) call-is ∙ ap (λ (R : Reader). Runs.after R (words_after made)) (h.readers k)
+  own_is = ap (λ (D : Done). Runs.after (Rs k) D) call_is ∙ ap (λ (R : Reader). Runs.after R (words_after made)) (h.readers k)
 
-  pub shown-after : Shown (step L w (Rs k) x).store (put Rs k (Runs.after (Rs k) (step L w (Rs k) x))) made.store (put Ps k (moved (Ps k) made))
-  shown-after = record {
-    store = ap (λ (D : Done). D.store) call-is;
+  pub shown_after : Shown (step L w (Rs k) x).store (put Rs k (Runs.after (Rs k) (step L w (Rs k) x))) made.store (put Ps k (moved (Ps k) made))
+  shown_after = record {
+    store = ap (λ (D : Done). D.store) call_is;
     readers = λ j.
         two j k
         (λ e. put_same Rs k _ j e ∙ own_is ∙ ap reader_of (sym (put_same Ps k (moved (Ps k) made) j e)))
         (λ n. put_other Rs k _ j n ∙ h.readers j ∙ ap reader_of (sym (put_other Ps k (moved (Ps k) made) j n)));
-    inside = stays-inside s Ps h.inside k x;
+    inside = stays_inside s Ps h.inside k x;
   }
 
 run_is : (lent : ℕ → Lent) → ((n : ℕ) → Sized (lent n)) → (n : ℕ) (w : List ℕ) (Rs : ℕ → Reader) (s : Store) (Ps : ℕ → Own) → Shown w Rs s Ps
@@ -76,8 +76,8 @@ unfolding run_from pure_from
 run_is lent sized n w Rs s Ps h [] = refl
 run_is lent sized n w Rs s Ps h (x ∷ xs) =
     rw (
-      seen-is (lent n) (sized n) w Rs s Ps h x.reader x.what,
-      run_is lent sized (suc n) _ _ _ _ (shown-after (lent n) (sized n) w Rs s Ps h x.reader x.what) xs,
+      seen_is (lent n) (sized n) w Rs s Ps h x.reader x.what,
+      run_is lent sized (suc n) _ _ _ _ (shown_after (lent n) (sized n) w Rs s Ps h x.reader x.what) xs,
     )
 
 -- ---- from the start
@@ -107,7 +107,7 @@ start_both = record {
 pub start_shown : Shown fresh_store (λ i. starting) first (λ i. beginner)
 unfolding fresh_store starting
 start_shown = record {
-  store = ap (λ (p : Reply × List ℕ). p.1) (fresh-goes (blank store_words) (length_blank store_words));
+  store = ap (λ (p : Reply × List ℕ). p.1) (fresh_goes (blank store_words) (length_blank store_words));
   readers = λ j. ap (λ (p : SetReply × List ℕ). record { set = p.1; names = 0 ∷ [] }) (fresh-set-goes (blank set_words_length) (length_blank set_words_length) true);
   inside = λ j. start_both;
 }
@@ -120,8 +120,8 @@ run_first lent sized calls = run_is lent sized 0 fresh_store (λ j. starting) fi
 
 module _ (i : ℕ) (calls : List (By Call)) (lent lent' : ℕ → Lent) (sized : (n : ℕ) → Sized (lent n)) (sized' : (n : ℕ) → Sized (lent' n)) where
   -- A reader whose own calls lack no room, shared or alone, sees shared what it sees alone: that others lack room does not matter.
-  pub own-as-if-alone : Roomy (only i (run lent calls)) → Roomy (run lent' (only i calls)) → only i (run lent calls) ≡ run lent' (only i calls)
-  own-as-if-alone a b =
+  pub own_as_if_alone : Roomy (only i (run lent calls)) → Roomy (run lent' (only i calls)) → only i (run lent calls) ≡ run lent' (only i calls)
+  own_as_if_alone a b =
       let shared-is = run_first lent sized calls in
       let alone-is = run_first lent' sized' (only i calls) in
       ap (only i) shared-is
@@ -143,7 +143,7 @@ roomy_only i (x ∷ xs) h = go (eqb x.reader i) (roomy_only i xs h.1)
 -- verdicts as if alone."
 pub as_if_alone : (i : ℕ) (calls : List (By Call)) (lent lent' : ℕ → Lent) → ((n : ℕ) → Sized (lent n)) → ((n : ℕ) → Sized (lent' n))
     → Roomy (run lent calls) → Roomy (run lent' (only i calls)) → only i (run lent calls) ≡ run lent' (only i calls)
-as_if_alone i calls lent lent' sized sized' a b = own-as-if-alone i calls lent lent' sized sized' (roomy_only i (run lent calls) a) b
+as_if_alone i calls lent lent' sized sized' a b = own_as_if_alone i calls lent lent' sized sized' (roomy_only i (run lent calls) a) b
 
 -- ---- in document 01's words: however the calls interleave
 

@@ -9,8 +9,8 @@ use Rattle.readers.specs.Calls.{Call, Lent, Sized, Got, refused, Reader}
 use Rattle.readers.specs.Runs.{see, By, put, fresh_store, starting, only, Roomy, Served}
 use Rattle.readers.specs.Programs.{Program, play_from, play, turns_of}
 use Rattle.readers.specs.Twins.{Own, Both, after}
-use Rattle.readers.specs.Turns.{roomy, moved, put_same, put_other, Inside, stays-inside, others-turn, own_turn}
-use Rattle.readers.specs.Alone.{Shown, seen-is, shown-after, first, beginner, start_both, start_shown}
+use Rattle.readers.specs.Turns.{roomy, moved, put_same, put_other, Inside, stays_inside, others_turn, own_turn}
+use Rattle.readers.specs.Alone.{Shown, seen_is, shown_after, first, beginner, start_both, start_shown}
 
 -- ---- over stores and sets
 
@@ -31,7 +31,7 @@ alone_from P i (k ∷ turns) s t Ps Qs seen seen' inside h q a b =
     let x = P k (seen k) in
     let D = after s (Ps k) x in
     let got = see D.store D.got in
-    let kept = stays-inside s Ps inside k x in
+    let kept = stays_inside s Ps inside k x in
     two k i
     (λ e.
     let own : eqb k i ≡ true = eq-eqb k i e in
@@ -45,7 +45,7 @@ alone_from P i (k ∷ turns) s t Ps Qs seen seen' inside h q a b =
     (λ n.
     let other : eqb k i ≡ false = ne_eqb k i n in
     rw (other, which)
-    (alone_from P i turns _ t _ Qs _ seen' kept (others-turn s Ps inside k x t (Qs i) i n h)
+    (alone_from P i turns _ t _ Qs _ seen' kept (others_turn s Ps inside k x t (Qs i) i n h)
     (put_other seen k _ i (λ e. n (sym e)) ∙ q) (rw (other, which) at a) (rw (other, which) at b)))
 
 -- ---- over words
@@ -56,8 +56,8 @@ unfolding play_from pure_from
 play_is P lent sized n w Rs s Ps h seen [] = refl
 play_is P lent sized n w Rs s Ps h seen (k ∷ turns) =
     rw (
-      seen-is (lent n) (sized n) w Rs s Ps h k (P k (seen k)),
-      play_is P lent sized (suc n) _ _ _ _ (shown-after (lent n) (sized n) w Rs s Ps h k (P k (seen k))) _ turns,
+      seen_is (lent n) (sized n) w Rs s Ps h k (P k (seen k)),
+      play_is P lent sized (suc n) _ _ _ _ (shown_after (lent n) (sized n) w Rs s Ps h k (P k (seen k))) _ turns,
     )
 
 start_is : (P : ℕ → Program) (lent : ℕ → Lent) → ((n : ℕ) → Sized (lent n)) → (turns : List ℕ) → play P lent turns ≡ pure_from P first (λ j. beginner) (λ j. []) turns

@@ -19,7 +19,7 @@ use Rattle.sets.specs.Sets.{empty_set, with_configs}
 use Rattle.groups.specs.Lists.{which}
 use Rattle.groups.specs.Groups as Grouped
 use Rattle.groups.specs.Groups.{insert, rising, alts_of, together, firsts, subset}
-use Rattle.groups.specs.Answers.{many, stopped, justOne}
+use Rattle.groups.specs.Answers.{many, stopped, just_one}
 use Rattle.groups.specs.Reason.{pick, reason}
 use Rattle.readers.specs.Calls.{Call, singleton, merge, why, Lent, Sized, part, Got, context, groups, reasoned}
 use Rattle.readers.specs.Runs.{see, heard, By, run, only, Served, Roomy}
@@ -73,7 +73,7 @@ abbrev clash_in : Store → ℕ → Got ℕ
 clash_in s c = (state_after s (with_configs (empty_set true) (config 5 1 c 0 0 0 ∷ config 5 2 c 0 0 0 ∷ [])) (0 ∷ c ∷ []) (why [])).got
 
 clashes_differ : (clash_in shared.store 2 ≡ groups (part 5 2 (1 ∷ 2 ∷ []) ∷ [])) × (clash_in lone.store 1 ≡ groups (part 5 1 (1 ∷ 2 ∷ []) ∷ []))
-unfolding state_after unless reason pick stopped all any Grouped.groups firsts together which subset alts_of rising insert many justOne reasoned
+unfolding state_after unless reason pick stopped all any Grouped.groups firsts together which subset alts_of rising insert many just_one reasoned
 clashes_differ = (refl, refl)
 
 -- What it sees is the same.

@@ -16,7 +16,7 @@ use Rattle.arena.specs.Trees.{tree_canon, at_nowhere}
 use Rattle.arena.specs.Identity.{tree_root}
 use Rattle.arena.specs.Place.{place, merge_s}
 use Rattle.arena.specs.Placed.{Grew, grew_refl, grew_length, place_grew, Holds, place_holds}
-use Rattle.arena.specs.Steps.{merge-holds, merge-grew}
+use Rattle.arena.specs.Steps.{merge_holds, merge_grew}
 use Rattle.arena.specs.Below.{StoreBelow}
 use Rattle.arena.specs.Below.Laws.{tree_below, merge_below, place_below}
 use Rattle.layout.specs.Layout.{stop}
@@ -25,17 +25,17 @@ use Rattle.encoding.specs.Good.{GoodStore}
 use Rattle.encoding.specs.Decide.{fits}
 use Rattle.encoding.specs.Decide.Laws.{fits_true}
 use Rattle.store.specs.Checks.{Check, given, unless}
-use Rattle.store.specs.Checks.Laws.{Clear, unless-first, unless-next}
+use Rattle.store.specs.Checks.Laws.{Clear, unless_first, unless_next}
 use Rattle.interning.specs.SingletonCall.{single_s}
-use Rattle.interning.specs.SingletonCall.Laws.{single-mark, single-state}
+use Rattle.interning.specs.SingletonCall.Laws.{single_mark, single_state}
 use Rattle.sets.specs.Config.{Config, config}
 use Rattle.sets.specs.Lists.{any, all}
 use Rattle.sets.specs.Layout.{most_configs}
 use Rattle.sets.specs.Sets.{Set, empty_set, closed_set, same_keys, held, add_to}
 use Rattle.sets.specs.Words.{distinct, good_set}
-use Rattle.sets.specs.Sound.{good-known}
-use Rattle.sets.specs.Kept.{good_more, good_inserted, good-joined}
-use Rattle.configs.specs.Adds.{add-joined, add-new}
+use Rattle.sets.specs.Sound.{good_known}
+use Rattle.sets.specs.Kept.{good_more, good_inserted, good_joined}
+use Rattle.configs.specs.Adds.{add_joined, add_new}
 use Rattle.readers.specs.Calls.{Name, Call, singleton, merge, query, fresh_set, add, close, subsets, conflicting_alts, unique_alt, single_viable_alt}
 use Rattle.readers.specs.Calls.{all_subsets_conflict, all_subsets_equal, verdict, why, Got}
 use Rattle.readers.specs.Pure.{State, to, halt, singleton_to, merge_to, add_checks_of, addition_to, verdict_to, state_after}
@@ -53,14 +53,14 @@ abbrev pub single_t : ℕ → Forest → Forest
 single_t r F = elim (eqb r empty_mark) [ true ↦ mark | false ↦ over r F none ]
 
 module _ (s : Store) (g : GoodStore s) where
-  pub single-makes : (r c : ℕ) → c < length s → (leb stop r && not (eqb r empty_mark)) ≡ false → Makes s (single_s s c r) (single_t r (tree s c))
-  single-makes r c h ok =
+  pub single_makes : (r c : ℕ) → c < length s → (leb stop r && not (eqb r empty_mark)) ≡ false → Makes s (single_s s c r) (single_t r (tree s c))
+  single_makes r c h ok =
       bool? (eqb r empty_mark)
-      (λ e. rw (single-mark s c r e, e, single_t)
+      (λ e. rw (single_mark s c r e, e, single_t)
       (record { holds = record { sound = g.sound; known = g.some; is = tree_root s g.sound g.some }; grew = grew_refl s; below = g.below }))
       (λ e.
       let v = tree_canon s g.sound c h in
-      rw (single-state s c r e, e, single_t)
+      rw (single_state s c r e, e, single_t)
       (record {
         holds = place_holds s (over r (tree s c) none) g.sound (omega arith, v.0, v.1, tt) tt;
         grew = place_grew s (over r (tree s c) none);
@@ -70,11 +70,11 @@ module _ (s : Store) (g : GoodStore s) where
       state : eqb r empty_mark ≡ false → r < stop
       state e = below? r stop (λ l. l) (λ l. let k : ◌≡◌ {A = Bool} true false = rw (le-leb stop r l, e) at ok in never_both {b = true} refl k)
 
-  pub merge-makes : (m : Bool) (a b : ℕ) → a < length s → b < length s → Makes s (merge_s m s a b) (merge_t m (tree s a) (tree s b))
+  pub merge_makes : (m : Bool) (a b : ℕ) → a < length s → b < length s → Makes s (merge_s m s a b) (merge_t m (tree s a) (tree s b))
   unfolding merge_s
-  merge-makes m a b h k = record {
-    holds = merge-holds m s g.sound a b h k;
-    grew = merge-grew m s g.sound a b h k;
+  merge_makes m a b h k = record {
+    holds = merge_holds m s g.sound a b h k;
+    grew = merge_grew m s g.sound a b h k;
     below = place_below stop s _ g.below (merge_below stop m _ _ (tree_below stop s g.below a) (tree_below stop s g.below b));
   }
 
@@ -106,8 +106,8 @@ module _ (s : Store) (S : Set) (good : Good s S) where
   checked D [] h = h tt
   checked D (c ∷ cs) h =
       bool? c.holds
-      (λ e. subst (After s) (sym (unless-first (halt s S) D c cs e)) (stays _))
-      (λ e. subst (After s) (sym (unless-next (halt s S) D c cs e)) (checked D cs (λ v. h (e, v))))
+      (λ e. subst (After s) (sym (unless_first (halt s S) D c cs e)) (stays _))
+      (λ e. subst (After s) (sym (unless_next (halt s S) D c cs e)) (checked D cs (λ v. h (e, v))))
 
   grown : {x : ℕ × Store} {F : Forest} → Makes s x F → fits x.1 ≡ true → GoodStore x.1
   grown m e = record { sound = m.holds.sound; below = m.below; some = omega (arith, m.holds.known); fits = fits_true _ e }
@@ -120,13 +120,13 @@ module _ (s : Store) (S : Set) (good : Good s S) where
 
   -- ---- a config added
 
-  pub held-known : (x : Config) (ys : List Config) (k c : ℕ) → all (λ y. ltb y.context k) ys ≡ true → held x ys ≡ at c → c < k
+  pub held_known : (x : Config) (ys : List Config) (k c : ℕ) → all (λ y. ltb y.context k) ys ≡ true → held x ys ≡ at c → c < k
   unfolding held all
-  held-known x [] k c a e = absurd (at_nowhere c (sym e))
-  held-known x (y ∷ ys) k c a e =
+  held_known x [] k c a e = absurd (at_nowhere c (sym e))
+  held_known x (y ∷ ys) k c a e =
       bool? (same_keys x y)
       (λ q. let r : at y.context ≡ at c = rw (q, held) at e in let p : y.context ≡ c = cc in rw (← p) (ltb-true y.context k (and_left _ _ a)))
-      (λ q. held-known x ys k c (and_right (ltb y.context k) _ a) (rw (q, held) at e))
+      (λ q. held_known x ys k c (and_right (ltb y.context k) _ a) (rw (q, held) at e))
 
   held_none : (x : Config) (ys : List Config) → held x ys ≡ nowhere → any (same_keys x) ys ≡ false
   unfolding held any
@@ -136,48 +136,48 @@ module _ (s : Store) (S : Set) (good : Good s S) where
       (λ q. let r : at y.context ≡ nowhere = rw (q, held) at e in cc)
       (λ q. rw q (held_none x ys (rw (q, held) at e)))
 
-  joined-after : (x : Config) → x.context < length s → (c : ℕ) → held x S.configs ≡ at c → Clear (add_checks_of s S x (add_to s S x)) → (g : Got ℕ)
+  joined_after : (x : Config) → x.context < length s → (c : ℕ) → held x S.configs ≡ at c → Clear (add_checks_of s S x (add_to s S x)) → (g : Got ℕ)
       → After s (to g (add_to s S x).store (add_to s S x).set)
-  joined-after x h c e ok g =
-      let m = merge-makes s good.store (not S.full) c x.context (held-known x S.configs (length s) c (good-known (length s) S good.set) e) h in
-      let room = not-false _ (rw (add-joined s S x c e) at ok.1.1.1.1.0) in
-      rw (add-joined s S x c e)
+  joined_after x h c e ok g =
+      let m = merge_makes s good.store (not S.full) c x.context (held_known x S.configs (length s) c (good_known (length s) S good.set) e) h in
+      let room = not-false _ (rw (add_joined s S x c e) at ok.1.1.1.1.0) in
+      rw (add_joined s S x c e)
       (record {
         good = record {
           store = grown m room;
-          set = good-joined x _ (length s) _ S (grew_length s _ m.grew) m.holds.known good.set;
+          set = good_joined x _ (length s) _ S (grew_length s _ m.grew) m.holds.known good.set;
         };
         grew = m.grew;
       })
 
-  inserted-after : (x : Config) → x.context < length s → held x S.configs ≡ nowhere → Clear (add_checks_of s S x (add_to s S x)) → (g : Got ℕ)
+  inserted_after : (x : Config) → x.context < length s → held x S.configs ≡ nowhere → Clear (add_checks_of s S x (add_to s S x)) → (g : Got ℕ)
       → After s (to g (add_to s S x).store (add_to s S x).set)
-  inserted-after x h e ok g =
+  inserted_after x h e ok g =
       let new = held_none x S.configs e in
       let few : leb most_configs (length S.configs) ≡ false = rw new at ok.1.1.0 in
-      rw (add-new s S x e)
+      rw (add_new s S x e)
       (record {
         good = record { store = good.store; set = good_inserted (length s) S x good.set h new (leb-false most_configs (length S.configs) few) };
         grew = grew_refl s;
       })
 
-  addition-after : (x : Config) → x.context < length s → After s (addition_to s S x)
-  addition-after x h =
-      checked _ (add_checks_of s S x (add_to s S x)) (λ ok. found? (held x S.configs) (λ c e. joined-after x h c e ok _) (λ e. inserted-after x h e ok _))
+  addition_after : (x : Config) → x.context < length s → After s (addition_to s S x)
+  addition_after x h =
+      checked _ (add_checks_of s S x (add_to s S x)) (λ ok. found? (held x S.configs) (λ c e. joined_after x h c e ok _) (λ e. inserted_after x h e ok _))
 
   -- ---- each call
 
   module _ (cs : List ℕ) (known : Known s cs) where
     pub step_after : (x : Call) → After s (state_after s S cs x)
     unfolding state_after good_set all distinct
-    step_after (singleton n r) = let c = get_or cs n 0 in checked _ _ (λ ok. made _ (single_s s c r) _ (single-makes s good.store r c (known n) ok.0) ok.1.0)
+    step_after (singleton n r) = let c = get_or cs n 0 in checked _ _ (λ ok. made _ (single_s s c r) _ (single_makes s good.store r c (known n) ok.0) ok.1.0)
     step_after (merge n k m) =
         let a = get_or cs n 0 in
         let b = get_or cs k 0 in
-        checked _ _ (λ ok. made _ (merge_s m s a b) _ (merge-makes s good.store m a b (known n) (known k)) ok.1.0)
+        checked _ _ (λ ok. made _ (merge_s m s a b) _ (merge_makes s good.store m a b (known n) (known k)) ok.1.0)
     step_after (query q n) = stays _
     step_after (fresh_set f) = record { good = record { store = good.store; set = refl }; grew = grew_refl s }
-    step_after (add q a n m r p) = addition-after (config q a (get_or cs n 0) m r p) (known n)
+    step_after (add q a n m r p) = addition_after (config q a (get_or cs n 0) m r p) (known n)
     step_after close = record { good = record { store = good.store; set = good.set }; grew = grew_refl s }
     step_after subsets = stays _
     step_after conflicting_alts = stays _

@@ -1,5 +1,5 @@
 -- Several readers of one store: demand 3's middle sentence. To believe: Calls, Runs. The theorem: `as_if_alone` of Alone.
--- Beside it `own-as-if-alone` of Alone (others may lack room) and `decided_as_if_alone` of Deciding (each call is chosen by what was seen).
+-- Beside it `own_as_if_alone` of Alone (others may lack room) and `decided_as_if_alone` of Deciding (each call is chosen by what was seen).
 -- Examples: two readers whose numbers differ, shared and alone, and who see the same.
 pub mod Calls
 pub mod Runs

@@ -17,21 +17,21 @@ use Rattle.readers.specs.Calls.{Call, Part, part, Got, refused}
 use Rattle.readers.specs.Runs.{see, heard, By, put, only, Roomy, Served}
 use Rattle.readers.specs.Pure.{State}
 use Rattle.readers.specs.Kept.{Good, After, Known, step_after}
-use Rattle.readers.specs.Alike.{each_append, each-wider, each_same, Parts, parts, Gots, refusals, contexts, grouped, plains, sets_wider, named-alike, heard-alike}
+use Rattle.readers.specs.Alike.{each_append, each_wider, each_same, Parts, parts, Gots, refusals, contexts, grouped, plains, sets_wider, named_alike, heard_alike}
 use Rattle.readers.specs.Twins.{Like, like_grew, Alike, Own, Both, after, step_kept}
 
 -- ---- what is alike is seen as the same
 
 module _ (s t : Store) where
-  see-part : (x y : Part ℕ) → Parts (Like s t) x y → part x.state (stands s x.context) x.alternatives ≡ part y.state (stands t y.context) y.alternatives
-  see-part x y (parts q l r) = ap (λ (F : Forest). part q (mem F) l) r.same
+  see_part : (x y : Part ℕ) → Parts (Like s t) x y → part x.state (stands s x.context) x.alternatives ≡ part y.state (stands t y.context) y.alternatives
+  see_part x y (parts q l r) = ap (λ (F : Forest). part q (mem F) l) r.same
 
-  see-alike : {p q : Got ℕ} → Gots (Like s t) p q → see s p ≡ see t q
+  see_alike : {p q : Got ℕ} → Gots (Like s t) p q → see s p ≡ see t q
   unfolding see
-  see-alike (refusals n) = refl
-  see-alike (contexts r) = ap (λ (F : Forest). Got.context (mem F)) r.same
-  see-alike (grouped l) = ap Got.groups (each_same (Parts (Like s t)) _ _ see-part l)
-  see-alike (plains p) = refl
+  see_alike (refusals n) = refl
+  see_alike (contexts r) = ap (λ (F : Forest). Got.context (mem F)) r.same
+  see_alike (grouped l) = ap Got.groups (each_same (Parts (Like s t)) _ _ see_part l)
+  see_alike (plains p) = refl
 
 pub roomy : (D : State) → Served (see D.store D.got) → Served D.got
 unfolding see
@@ -53,7 +53,7 @@ both_grew s t u v P Q f gu g gv h =
       left = good_grew s u P.set f gu h.left;
       right = good_grew t v Q.set g gv h.right;
       zeros = still 0 0 h.zeros;
-      names = each-wider (Like s t) (Like u v) still h.names;
+      names = each_wider (Like s t) (Like u v) still h.names;
       sets = sets_wider (Like s t) (Like u v) still h.sets;
     }
 
@@ -65,7 +65,7 @@ both_after s t P Q D E h f g k =
       left = f.good;
       right = g.good;
       zeros = still 0 0 h.zeros;
-      names = each_append _ (each-wider (Like s t) _ still h.names) (heard-alike _ k.gots);
+      names = each_append _ (each_wider (Like s t) _ still h.names) (heard_alike _ k.gots);
       sets = k.sets;
     }
 
@@ -78,17 +78,17 @@ pub put_other : {A : Type 0} (f : ℕ → A) (k : ℕ) (a : A) (j : ℕ) → (j 
 put_other f k a j n = rw (ne_eqb j k n, put)
 
 module _ (s t : Store) (P Q : Own) (h : Both s t P Q) where
-  pub known-left : Known s P.names
-  known-left k = (named-alike (Like s t) k h.zeros h.names).left
+  pub known_left : Known s P.names
+  known_left k = (named_alike (Like s t) k h.zeros h.names).left
 
-  known-right : Known t Q.names
-  known-right k = (named-alike (Like s t) k h.zeros h.names).right
+  known_right : Known t Q.names
+  known_right k = (named_alike (Like s t) k h.zeros h.names).right
 
-  pub after-left : (x : Call) → After s (after s P x)
-  after-left x = step_after s P.set h.left P.names known-left x
+  pub after_left : (x : Call) → After s (after s P x)
+  after_left x = step_after s P.set h.left P.names known_left x
 
-  after-right : (x : Call) → After t (after t Q x)
-  after-right x = step_after t Q.set h.right Q.names known-right x
+  after_right : (x : Call) → After t (after t Q x)
+  after_right x = step_after t Q.set h.right Q.names known_right x
 
 -- every reader's contexts are in the store: each is alike with itself
 abbrev pub Inside : Store → (ℕ → Own) → Type 0
@@ -103,21 +103,21 @@ module _ (s : Store) (Ps : ℕ → Own) (inside : Inside s Ps) (k : ℕ) (x : Ca
   next = put Ps k (moved (Ps k) made)
 
   made_after : After s made
-  made_after = after-left s s (Ps k) (Ps k) (inside k) x
+  made_after = after_left s s (Ps k) (Ps k) (inside k) x
 
   itself : Alike made made
   itself = step_kept s s (Ps k) (Ps k) (inside k) x (λ h. h, λ h. h) (λ h. h, λ h. h)
 
-  pub stays-inside : Inside made.store next
-  stays-inside j =
+  pub stays_inside : Inside made.store next
+  stays_inside j =
       two j k
       (λ e. rw (put_same Ps k (moved (Ps k) made) j e) (both_after s s (Ps k) (Ps k) made made (inside k) made_after made_after itself))
       (λ n. rw (put_other Ps k (moved (Ps k) made) j n)
       (both_grew s s made.store made.store (Ps j) (Ps j) made_after.grew made_after.good.store made_after.grew made_after.good.store (inside j)))
 
   -- it keeps the relation of any other reader i, also where it lacks room
-  pub others-turn : (t : Store) (Q : Own) (i : ℕ) → (k ≡ i → ⊥) → Both s t (Ps i) Q → Both made.store t (next i) Q
-  others-turn t Q i n h =
+  pub others_turn : (t : Store) (Q : Own) (i : ℕ) → (k ≡ i → ⊥) → Both s t (Ps i) Q → Both made.store t (next i) Q
+  others_turn t Q i n h =
       rw (put_other Ps k (moved (Ps k) made) i (λ e. n (sym e)))
       (both_grew s t made.store t (Ps i) Q made_after.grew made_after.good.store (grew_refl t) h.right.store h)
 
@@ -129,9 +129,9 @@ module _ (s : Store) (Ps : ℕ → Own) (inside : Inside s Ps) (k : ℕ) (x : Ca
       let lone = after t (Qs k) x in
       let here : Both s t (Ps k) (Qs k) = subst (λ (j : ℕ). Both s t (Ps j) (Qs j)) (sym e) h in
       let kept : Alike made lone = step_kept s t (Ps k) (Qs k) here x (λ q. room'.0, λ q. room.0) (λ q. room'.1, λ q. room.1) in (
-        see-alike made.store lone.store kept.gots,
+        see_alike made.store lone.store kept.gots,
         rw (put_same Ps k (moved (Ps k) made) i (sym e), put_same Qs k (moved (Qs k) lone) i (sym e))
-            (both_after s t (Ps k) (Qs k) made lone here made_after (after-right s t (Ps k) (Qs k) here x) kept),
+            (both_after s t (Ps k) (Qs k) made lone here made_after (after_right s t (Ps k) (Qs k) here x) kept),
       )
 
 -- ---- runs over stores and sets
@@ -151,7 +151,7 @@ alone_from i (x ∷ xs) s t Ps Qs inside h a b =
     let k = x.reader in
     let D = after s (Ps k) x.what in
     let Ps' = put Ps k (moved (Ps k) D) in
-    let kept = stays-inside s Ps inside k x.what in
+    let kept = stays_inside s Ps inside k x.what in
     two k i
     (λ e.
     let own : eqb k i ≡ true = eq-eqb k i e in
@@ -161,4 +161,4 @@ alone_from i (x ∷ xs) s t Ps Qs inside h a b =
     rw (own, which, turn.0, alone_from i xs _ _ _ _ kept turn.1 a'.1 b'.1))
     (λ n.
     let other : eqb k i ≡ false = ne_eqb k i n in
-    rw (other, which) (alone_from i xs _ t _ Qs kept (others-turn s Ps inside k x.what t (Qs i) i n h) (rw (other, which) at a) (rw (other, which) at b)))
+    rw (other, which) (alone_from i xs _ t _ Qs kept (others_turn s Ps inside k x.what t (Qs i) i n h) (rw (other, which) at a) (rw (other, which) at b)))

@@ -1,1 +1,2 @@
 // Readers that share a store: definitions and theorems alone.
+#![tactic(auto)]

@@ -37,10 +37,10 @@ module _ (b : List ℕ) (s k : ℕ) {j₁ : ℕ} {u₁ : List ℕ} {j₂ : ℕ} 
   unfolding reason_line
   one_line v₁ v₂ v₃ v₄ = wrote_then (wrote_then (wrote_then v₁ v₂.wrote) v₃.wrote) v₄
 
-  pub clash-line : (xs : List ℕ) {j₄ : ℕ} {u₄ : List ℕ} {j₅ : ℕ} {u₅ : List ℕ} → Wrote b 0 clashing j₁ u₁ → Piece u₁ j₁ (spaced s) j₂ u₂
+  pub clash_line : (xs : List ℕ) {j₄ : ℕ} {u₄ : List ℕ} {j₅ : ℕ} {u₅ : List ℕ} → Wrote b 0 clashing j₁ u₁ → Piece u₁ j₁ (spaced s) j₂ u₂
       → Piece u₂ j₂ (spaced k) j₃ u₃ → Spread u₃ j₃ xs j₄ u₄ → Wrote u₄ j₄ (10 ∷ []) j₅ u₅ → Wrote b 0 (reason_line (clash s k xs)) j₅ u₅
   unfolding reason_line
-  clash-line xs v₁ v₂ v₃ v₄ v₅ = wrote_then (wrote_then (wrote_then (wrote_then v₁ v₂.wrote) v₃.wrote) v₄.wrote) v₅
+  clash_line xs v₁ v₂ v₃ v₄ v₅ = wrote_then (wrote_then (wrote_then (wrote_then v₁ v₂.wrote) v₃.wrote) v₄.wrote) v₅
 
 -- ---- the call, with states that are those held and an output of zeros
 

@@ -9,21 +9,21 @@ use Rattle.sets.specs.Config.{Config}
 use Rattle.sets.specs.Layout.{config_at}
 use Rattle.sets.specs.Words.{configs_in}
 use Rattle.groups.specs.Lists.{All, which}
-use Rattle.groups.specs.Lists.Tests.{which-yes, which-no}
+use Rattle.groups.specs.Lists.Tests.{which_yes, which_no}
 use Rattle.groups.specs.Groups.{Group, together, firsts, subset, groups}
 use Rattle.groups.specs.Rules.{subset_same}
 use Rattle.groups.specs.Sentences.{Many}
 use Rattle.groups.specs.Reason.{FirstOf}
 use Rattle.groups.specs.Reason.Laws.{first_some}
-use Rattle.grouping.specs.Places.{place-every}
+use Rattle.grouping.specs.Places.{place_every}
 
 -- ---- by place
 
 module _ {A : Type 0} (P : A → Type 0) where
   -- none of the first ones is a P
-  first-after : (xs : List A) (y : A) → All (λ x. P x → ⊥) xs → P y → FirstOf P y (xs ++ (y ∷ []))
-  first-after [] y v p = inl (p, refl)
-  first-after (x ∷ xs) y v p = inr (v.0, first-after xs y v.1 p)
+  first_after : (xs : List A) (y : A) → All (λ x. P x → ⊥) xs → P y → FirstOf P y (xs ++ (y ∷ []))
+  first_after [] y v p = inl (p, refl)
+  first_after (x ∷ xs) y v p = inr (v.0, first_after xs y v.1 p)
 
   -- more behind
   first_more : (xs ys : List A) (a : A) → FirstOf P a xs → FirstOf P a (xs ++ ys)
@@ -31,15 +31,15 @@ module _ {A : Type 0} (P : A → Type 0) where
   first_more (x ∷ xs) ys a (inr h) = inr (h.0, first_more xs ys a h.1)
 
   -- those that fail a test, which no P fails, left out
-  first-which : (t : A → Bool) → ((x : A) → t x ≡ false → P x → ⊥) → (xs : List A) (a : A) → FirstOf P a xs → FirstOf P a (which t xs)
+  first_which : (t : A → Bool) → ((x : A) → t x ≡ false → P x → ⊥) → (xs : List A) (a : A) → FirstOf P a xs → FirstOf P a (which t xs)
   unfolding which
-  first-which t f (x ∷ xs) a (inl h) =
-      bool? (t x) (λ e. subst (FirstOf P a) (sym (which-yes t x xs e)) (inl h)) (λ e. absurd (f x e h.0))
-  first-which t f (x ∷ xs) a (inr h) =
-      let rest = first-which t f xs a h.1 in
+  first_which t f (x ∷ xs) a (inl h) =
+      bool? (t x) (λ e. subst (FirstOf P a) (sym (which_yes t x xs e)) (inl h)) (λ e. absurd (f x e h.0))
+  first_which t f (x ∷ xs) a (inr h) =
+      let rest = first_which t f xs a h.1 in
       bool? (t x)
-      (λ e. subst (FirstOf P a) (sym (which-yes t x xs e)) (inr (h.0, rest)))
-      (λ e. subst (FirstOf P a) (sym (which-no t x xs e)) rest)
+      (λ e. subst (FirstOf P a) (sym (which_yes t x xs e)) (inr (h.0, rest)))
+      (λ e. subst (FirstOf P a) (sym (which_no t x xs e)) rest)
 
 pub place_first : (P : Config → Type 0) (v : List ℕ) (n i : ℕ) → i < n → ((j : ℕ) → j < i → P (config_at v j) → ⊥) → P (config_at v i)
     → FirstOf P (config_at v i) (configs_in v n)
@@ -48,7 +48,7 @@ place_first P v zero i h f p = absurd (omega arith)
 place_first P v (suc n) i h f p =
     two i n
     (λ e. subst (λ (k : ℕ). FirstOf P (config_at v i) (configs_in v k ++ (config_at v k ∷ []))) e
-    (first-after P (configs_in v i) (config_at v i) (place-every v (λ c. P c → ⊥) i f) p))
+    (first_after P (configs_in v i) (config_at v i) (place_every v (λ c. P c → ⊥) i f) p))
     (λ d. first_more P (configs_in v n) (config_at v n ∷ []) (config_at v i) (place_first P v n i (omega arith) f p))
 
 -- ---- of the subsets
@@ -63,7 +63,7 @@ first_firsts : (P : Config → Type 0) (alike : Config → Config → Bool) → 
 unfolding firsts
 first_firsts P alike f (c ∷ cs) a (inl h) = inl h
 first_firsts P alike f (c ∷ cs) a (inr h) =
-    inr (h.0, first-which P (λ d. not (alike c d)) (λ x e p. h.0 (f c x (not_false (alike c x) e) p)) (firsts alike cs) a (first_firsts P alike f cs a h.1))
+    inr (h.0, first_which P (λ d. not (alike c d)) (λ x e p. h.0 (f c x (not_false (alike c x) e) p)) (firsts alike cs) a (first_firsts P alike f cs a h.1))
 
 first_map : {A B : Type 0} (g : A → B) (P : B → Type 0) (xs : List A) (a : A) → FirstOf (λ x. P (g x)) a xs → FirstOf P (g a) (map g xs)
 first_map g P (x ∷ xs) a (inl h) = inl (h.0, ap g h.1)

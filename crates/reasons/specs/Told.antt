@@ -7,7 +7,7 @@ use Rattle.sets.specs.Layout.{config_at, config_count, most_configs, set_words_l
 use Rattle.groups.specs.Groups.{subset}
 use Rattle.groups.specs.Answers.{stopped}
 use Rattle.groups.specs.Reason.{Reason, stop, none, one, clash, reason}
-use Rattle.groups.specs.Reason.Laws.{reason-stop}
+use Rattle.groups.specs.Reason.Laws.{reason_stop}
 use Rattle.grouping.specs.Clash.{configs_of}
 use Rattle.grouping.specs.Led.{Lent}
 use Rattle.grouping.specs.FirstMarked.{FirstPicked}
@@ -18,7 +18,7 @@ use Rattle.outputs.specs.Outputs.{alts_length, padded}
 use Rattle.outputs.specs.Members.{alts_at}
 use Rattle.verdicts.specs.Calls.{VerdictReply, because}
 use Rattle.reasons.specs.Calls.{clashing, reason_words}
-use Rattle.reasons.specs.Because.{clash-first, clash-none, lone-first, lone-none, because-none, because-one, because-clash}
+use Rattle.reasons.specs.Because.{clash_first, clash_none, lone_first, lone_none, because_none, because_one, because_clash}
 
 pub few : {v z : List ℕ} {i : ℕ} → Lent v z → i < config_count v → (length v ≡ set_words_length) × (i < most_configs)
 few l h = (l.sized, omega (arith, l.few))
@@ -49,26 +49,26 @@ module _ (stops v o : List ℕ) where
   tells r e q = (ap because e, q ∙ ap reason_words e)
 
   module _ (zero : o ≡ blank alts_length) where
-    pub tells-stop : stopped stops cs ≡ true → Tells (because stop)
+    pub tells_stop : stopped stops cs ≡ true → Tells (because stop)
     unfolding reason_words clashing
-    tells-stop e = tells stop (sym (reason-stop stops cs e)) (zero ∙ none_written)
+    tells_stop e = tells stop (sym (reason_stop stops cs e)) (zero ∙ none_written)
 
     pub tells_none : stopped stops cs ≡ false → FirstPicked v Place Rivals true New → Tells (because none)
     unfolding reason_words clashing
-    tells_none go c = tells none (because-none stops cs go (clash-none v c)) (zero ∙ none_written)
+    tells_none go c = tells none (because_none stops cs go (clash_none v c)) (zero ∙ none_written)
 
     pub tells_one : stopped stops cs ≡ false → (i : ℕ) → FirstPicked v Place Rivals true (At i) → (j : ℕ) → FirstPicked v State Rivals false (At j) → (s a : ℕ)
         → s ≡ (config_at v j).state → a ≡ (config_at v j).alternative → Tells (because (one s a))
     unfolding reason_words clashing subset
     tells_one go i c j l s a e f =
-        tells (one s a) (ap₂ one e f ∙ because-one stops cs go _ _ _ (clash-first v i c) (config_at v j) (lone-first v j l)) (zero ∙ none_written)
+        tells (one s a) (ap₂ one e f ∙ because_one stops cs go _ _ _ (clash_first v i c) (config_at v j) (lone_first v j l)) (zero ∙ none_written)
 
-  pub tells-clash : stopped stops cs ≡ false → (i : ℕ) → FirstPicked v Place Rivals true (At i) → FirstPicked v State Rivals false New
+  pub tells_clash : stopped stops cs ≡ false → (i : ℕ) → FirstPicked v Place Rivals true (At i) → FirstPicked v State Rivals false New
       → o ≡ padded alts_length (length (alts_at v i) ∷ alts_at v i)
       → (s k : ℕ) → s ≡ (config_at v i).state → k ≡ (config_at v i).context → Tells (because (clash s k (take (get_or o 0 0) (drop 1 o))))
   unfolding reason_words clashing subset
-  tells-clash go i c n q s k e f =
+  tells_clash go i c n q s k e f =
       let back = read_back (alts_at v i) o q in
       tells (clash s k (take (get_or o 0 0) (drop 1 o)))
-      ((rw (e, f, back)) ∙ because-clash stops cs go _ _ _ (clash-first v i c) (lone-none v n))
+      ((rw (e, f, back)) ∙ because_clash stops cs go _ _ _ (clash_first v i c) (lone_none v n))
       (rw back q)

@@ -1,4 +1,6 @@
 // Why the verdict on a set is what it is: a reason, and the alternatives of a clash in lent words.
+#![tactic(auto)]
+
 mod answers;
 mod asked;
 pub mod inner;

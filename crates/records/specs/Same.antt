@@ -9,7 +9,7 @@ use Rattle.store.specs.Checks.Laws.{clear_passed}
 use Rattle.sets.specs.Config.{Config}
 use Rattle.sets.specs.Words.{set_of}
 use Rattle.sets.specs.Calls.{lent_lengths, lent_checks}
-use Rattle.sets.specs.Refusals.{SoundLent, lent-clear}
+use Rattle.sets.specs.Refusals.{SoundLent, lent_clear}
 use Rattle.setcheck.specs.Configs.{config_of}
 use Rattle.setcheck.specs.declared.config.AtnConfig.{AtnConfig}
 use Rattle.groups.specs.Answers.{unique_alt}
@@ -25,16 +25,16 @@ module _ (w v z : List ℕ) (s : SoundLent w v z) (cs : List AtnConfig) (same : 
   -- a call whose lent words are sound answers
   answered : (x : VerdictReply) → read_call 0 [] w v z [] x [] ≡ verdict_left x zeros []
   unfolding read_call lent_checks
-  answered x = rw (and-true (lent_lengths w v z)) (clear_passed (read_refusal z []) (verdict_left x zeros []) (lent_checks (lent_lengths w v z) w v []) (lent-clear w v z s))
+  answered x = rw (and-true (lent_lengths w v z)) (clear_passed (read_refusal z []) (verdict_left x zeros []) (lent_checks (lent_lengths w v z) w v []) (lent_clear w v z s))
 
   -- what the call over words replies
-  pub as-words : (unique_alt_call w v z).reply ≡ alternative (one_alt r)
+  pub as_words : (unique_alt_call w v z).reply ≡ alternative (one_alt r)
   unfolding unique_alt_call
-  as-words = ap (λ (l : VerdictLeft). l.reply) (answered _) ∙ ap (λ (l : List Config). alternative (unique_alt l)) (sym same) ∙ ap alternative (sym e)
+  as_words = ap (λ (l : VerdictLeft). l.reply) (answered _) ∙ ap (λ (l : List Config). alternative (unique_alt l)) (sym same) ∙ ap alternative (sym e)
 
   -- and so what its code answers
   pub same_answer : (f : AltFound) (u o : List ℕ) → verdict_left (alt_found f) u o ≡ unique_alt_call w v z → alt_found f ≡ alternative (one_alt r)
-  same_answer f u o d = ap (λ (l : VerdictLeft). l.reply) d ∙ as-words
+  same_answer f u o d = ap (λ (l : VerdictLeft). l.reply) d ∙ as_words
 
 -- two answers that satisfy the contract for the same records are equal
 pub records_determined : (cs : List AtnConfig) (a b : OneAlt) → one_alt a ≡ unique_alt (map config_of cs) → one_alt b ≡ unique_alt (map config_of cs) → a ≡ b

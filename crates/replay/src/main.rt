@@ -1,5 +1,7 @@
 // Runs each recorded script and holds what it gives against the Rust's recorded answer; prints how
 // many differ. data/HOW.txt says what is recorded and how it was made.
+#![tactic(auto)]
+
 mod sample;
 
 ghost use Rattle.std.specs.Prelude.{◌≡◌, length};

@@ -16,14 +16,14 @@ unfolding held_stops
 stops_held xs = take-append_seam xs (blank (most_stops - length xs))
 
 module _ (l : Lent) where
-  pub stops-given : (xs : List ℕ) → length xs ≤ most_stops
+  pub stops_given : (xs : List ℕ) → length xs ≤ most_stops
       → ((call_of l (stops xs)).reply ≡ stops_line (length xs)) × (held_stops (call_of l (stops xs)).words.stops ≡ xs)
   unfolding call_of stops_call unless
-  stops-given xs h = rw (le-ltb most_stops (length xs) h, unless) (refl, stops_held xs)
+  stops_given xs h = rw (le-ltb most_stops (length xs) h, unless) (refl, stops_held xs)
 
-  pub stops-refused : (xs : List ℕ) → most_stops < length xs → ((call_of l (stops xs)).reply ≡ refusal_line 10) × ((call_of l (stops xs)).words.stops ≡ l.stops)
+  pub stops_refused : (xs : List ℕ) → most_stops < length xs → ((call_of l (stops xs)).reply ≡ refusal_line 10) × ((call_of l (stops xs)).words.stops ≡ l.stops)
   unfolding call_of stops_call unless
-  stops-refused xs h = rw (lt-ltb most_stops (length xs) h, unless) (refl, refl)
+  stops_refused xs h = rw (lt-ltb most_stops (length xs) h, unless) (refl, refl)
 
   -- a record that gives no stop states
   abbrev GivesNone : Record → Type 0
@@ -37,14 +37,14 @@ module _ (l : Lent) where
   GivesNone close = Unit {0}
   GivesNone why = Unit {0}
 
-  pub stops-kept : (r : Record) → GivesNone r → (call_of l r).words.stops ≡ l.stops
+  pub stops_kept : (r : Record) → GivesNone r → (call_of l r).words.stops ≡ l.stops
   unfolding call_of
-  stops-kept (singleton p r) k = refl
-  stops-kept (merge a b m) k = refl
-  stops-kept (new_set m) k = refl
-  stops-kept (add x) k = refl
-  stops-kept (stops xs) k = absurd k
-  stops-kept verdict k = refl
-  stops-kept (show c) k = refl
-  stops-kept close k = refl
-  stops-kept why k = refl
+  stops_kept (singleton p r) k = refl
+  stops_kept (merge a b m) k = refl
+  stops_kept (new_set m) k = refl
+  stops_kept (add x) k = refl
+  stops_kept (stops xs) k = absurd k
+  stops_kept verdict k = refl
+  stops_kept (show c) k = refl
+  stops_kept close k = refl
+  stops_kept why k = refl

@@ -9,7 +9,7 @@ use borrow.Author.Tests.{eq-eqb}
 use Rattle.cases.specs.Bools.{bool?, and_left, and_right}
 use Rattle.layout.specs.Layout.{store_words, scratch_words, blank}
 use Rattle.store.specs.Checks.{Check, given, unless}
-use Rattle.store.specs.Checks.Laws.{absent, unless-first, unless-next}
+use Rattle.store.specs.Checks.Laws.{absent, unless_first, unless_next}
 use Rattle.store.specs.Calls.{zeros, asked}
 use Rattle.store.specs.Calls.Laws.{zero_after}
 use Rattle.sets.specs.Layout.{set_words_length}
@@ -37,15 +37,15 @@ module _ {A : Type 0} (scratch : A → List ℕ) (refuse : ℕ → A) (refused :
   past_two [] a = goes
   past_two (c ∷ cs) a =
       bool? c.holds
-      (λ e. ap scratch (unless-first refuse go c cs e) ∙ refused c.number (not-two (eqb c.number 2) (and_left _ _ a)))
-      (λ e. ap scratch (unless-next refuse go c cs e) ∙ past_two cs (and_right (not (eqb c.number 2)) _ a))
+      (λ e. ap scratch (unless_first refuse go c cs e) ∙ refused c.number (not_two (eqb c.number 2) (and_left _ _ a)))
+      (λ e. ap scratch (unless_next refuse go c cs e) ∙ past_two cs (and_right (not (eqb c.number 2)) _ a))
     where
-      not-two : (b : Bool) → not b ≡ true → b ≡ false
-      not-two true e = sym e
-      not-two false e = refl
+      not_two : (b : Bool) → not b ≡ true → b ≡ false
+      not_two true e = sym e
+      not_two false e = refl
 
-  passed-two : (b : Bool) → b ≡ true → (cs : List Check) → absent 2 cs ≡ true → scratch (unless (given 2 (not b) ∷ cs) refuse go) ≡ zeros
-  passed-two b e cs a = ap scratch (unless-next refuse go (given 2 (not b)) cs (rw e)) ∙ past_two cs a
+  passed_two : (b : Bool) → b ≡ true → (cs : List Check) → absent 2 cs ≡ true → scratch (unless (given 2 (not b) ∷ cs) refuse go) ≡ zeros
+  passed_two b e cs a = ap scratch (unless_next refuse go (given 2 (not b)) cs (rw e)) ∙ past_two cs a
 
 -- each lent slice has its length
 pub record Sized (l : Lent) : Type 0 where
@@ -58,30 +58,30 @@ module _ (l : Lent) (k : Sized l) where
   unfolding lent_lengths
   lengths = rw (eq-eqb (length l.store) store_words k.store, eq-eqb (length l.set) set_words_length k.set, eq-eqb (length l.scratch) scratch_words k.scratch)
 
-  set-refused : (n : ℕ) → eqb n 2 ≡ false → (refusal l.store l.set l.scratch n).scratch ≡ zeros
+  set_refused : (n : ℕ) → eqb n 2 ≡ false → (refusal l.store l.set l.scratch n).scratch ≡ zeros
   unfolding refusal
-  set-refused n e = rw (e, refusal)
+  set_refused n e = rw (e, refusal)
 
-  read-refused : (o : List ℕ) (n : ℕ) → eqb n 2 ≡ false → (read_refusal l.scratch o n).scratch ≡ zeros
+  read_refused : (o : List ℕ) (n : ℕ) → eqb n 2 ≡ false → (read_refusal l.scratch o n).scratch ≡ zeros
   unfolding read_refusal
-  read-refused o n e = rw (e, read_refusal)
+  read_refused o n e = rw (e, read_refusal)
 
-  new-zero : (full : Bool) → (new_set_call l.store l.set l.scratch full).scratch ≡ zeros
+  new_zero : (full : Bool) → (new_set_call l.store l.set l.scratch full).scratch ≡ zeros
   unfolding new_set_call fresh_set_call unless
-  new-zero full = rw (eq-eqb (length l.set) set_words_length k.set, unless) (wiped_zero l.scratch k.scratch)
+  new_zero full = rw (eq-eqb (length l.set) set_words_length k.set, unless) (wiped_zero l.scratch k.scratch)
 
-  pub call-zero : (r : Record) → (call_of l r).words.scratch ≡ zeros
+  pub call_zero : (r : Record) → (call_of l r).words.scratch ≡ zeros
   unfolding call_of singleton_checks singleton_call merge_checks merge_call asked absent lent_checks add_checks add_call close_call figures_call why_call read_call blank
-  call-zero (singleton p r) = zero_after l.store l.scratch _ _ k.store k.scratch refl refl
-  call-zero (merge a b m) = zero_after l.store l.scratch _ _ k.store k.scratch refl refl
-  call-zero (new_set m) = new-zero (not m)
-  call-zero (add x) = passed-two (λ (y : SetLeft). y.scratch) (refusal l.store l.set l.scratch) set-refused _ refl _ lengths _ refl
-  call-zero (stops xs) = wiped_zero l.scratch k.scratch
-  call-zero verdict =
-      passed-two (λ (y : VerdictLeft). y.scratch) (read_refusal l.scratch []) (read-refused []) _ refl
+  call_zero (singleton p r) = zero_after l.store l.scratch _ _ k.store k.scratch refl refl
+  call_zero (merge a b m) = zero_after l.store l.scratch _ _ k.store k.scratch refl refl
+  call_zero (new_set m) = new_zero (not m)
+  call_zero (add x) = passed_two (λ (y : SetLeft). y.scratch) (refusal l.store l.set l.scratch) set_refused _ refl _ lengths _ refl
+  call_zero (stops xs) = wiped_zero l.scratch k.scratch
+  call_zero verdict =
+      passed_two (λ (y : VerdictLeft). y.scratch) (read_refusal l.scratch []) (read_refused []) _ refl
       (lent_lengths l.store l.set l.scratch && true) (rw lengths) _ refl
-  call-zero why =
-      passed-two (λ (y : VerdictLeft). y.scratch) (read_refusal l.scratch (blank alts_length)) (read-refused (blank alts_length)) _ refl
+  call_zero why =
+      passed_two (λ (y : VerdictLeft). y.scratch) (read_refusal l.scratch (blank alts_length)) (read_refused (blank alts_length)) _ refl
       (lent_lengths l.store l.set l.scratch && eqb (length (blank alts_length)) alts_length) (rw lengths) _ refl
-  call-zero (show c) = zero_after l.store l.scratch _ _ k.store k.scratch refl refl
-  call-zero close = passed-two (λ (y : SetLeft). y.scratch) (refusal l.store l.set l.scratch) set-refused _ refl _ lengths _ refl
+  call_zero (show c) = zero_after l.store l.scratch _ _ k.store k.scratch refl refl
+  call_zero close = passed_two (λ (y : SetLeft). y.scratch) (refusal l.store l.set l.scratch) set_refused _ refl _ lengths _ refl

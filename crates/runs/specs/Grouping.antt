@@ -12,7 +12,7 @@ use Rattle.layout.specs.Decode.{store_of}
 use Rattle.encoding.specs.Decide.{sound}
 use Rattle.store.specs.Calls.{Accepts}
 use Rattle.contexts.specs.MergeCall.{merge_call}
-use Rattle.contexts.specs.Promises.{merge_is_union, merge-sound-after, merge-known-before, equal_exactly}
+use Rattle.contexts.specs.Promises.{merge_is_union, merge_sound_after, merge_known_before, equal_exactly}
 use Rattle.runs.specs.Runs.{Event, merged, Step, merge, Run, begin, next, SameContexts, Answers, named, called, later}
 use Rattle.runs.specs.Growth.{Whole, Grows, step_grows, run_grows}
 
@@ -83,12 +83,12 @@ stood_grows x c g (inr h) = inr (union_grows x c g h)
 merge_union : (u z : List ℕ) (a b c : ℕ) (v : List ℕ) (x y : List ℕ) → Grows u v → Accepts (merge_call u z a b false) c v → Stood u x a → Stood u y b → Union v (x ++ y) c
 unfolding any_stands
 merge_union u z a b c v x y g ok hx hy =
-    let k = merge-known-before u z a b false c v ok in
+    let k = merge_known_before u z a b false c v ok in
     let ux : Union u x a = stood_known u x a hx k.0 in
     let uy : Union u y b = stood_known u y b hy k.1 in
     record {
       known = known_both v x y (known_grows x g ux.known) (known_grows y g uy.known);
-      number = (merge-sound-after u z a b false c v ok).2;
+      number = (merge_sound_after u z a b false c v ok).2;
       stacks = λ σ. merge_is_union u z a b c v ok σ
           ∙ rw (ux.stacks σ, uy.stacks σ, any_both v x y σ, any_grows x g ux.known σ, any_grows y g uy.known σ);
     }

@@ -16,8 +16,8 @@ use Rattle.layout.specs.Decode.{store_of}
 use Rattle.layout.specs.Decode.Laws.{store_length}
 use Rattle.encoding.specs.Decoded.{decoded}
 use Rattle.encoding.specs.Decide.Laws.{sound_true}
-use Rattle.interning.specs.Promises.{single-tree, single-sound-after, parent-known}
-use Rattle.contexts.specs.Promises.{merge-tree, merge-sound-after, merge-known-before}
+use Rattle.interning.specs.Promises.{single_tree, single_sound_after, parent_known}
+use Rattle.contexts.specs.Promises.{merge_tree, merge_sound_after, merge_known_before}
 use Rattle.runs.specs.Runs.{Event, merged, placed, other, Step, singleton, merge, query, add, close, Run, begin, next}
 use Rattle.runs.specs.Growth.{Whole, Grows, step_grows, run_grows}
 
@@ -79,17 +79,17 @@ step_says : {u v : List ℕ} {e : Event} → Whole u → Step u e v → Says v e
 unfolding raised
 step_says {u} {v} h (singleton z p r c ok) =
     let g = step_grows h (singleton z p r c ok) in record {
-      parent = g.known p (parent-known u z p r c v ok);
-      number = (single-sound-after u z p r c v ok).2;
-      is = single-tree u z p r c v ok ∙ ap (raised r) (sym (same_tree h g p (parent-known u z p r c v ok)));
+      parent = g.known p (parent_known u z p r c v ok);
+      number = (single_sound_after u z p r c v ok).2;
+      is = single_tree u z p r c v ok ∙ ap (raised r) (sym (same_tree h g p (parent_known u z p r c v ok)));
     }
 step_says {u} {v} h (merge z m a b c ok) =
     let g = step_grows h (merge z m a b c ok) in
-    let k = merge-known-before u z a b m c v ok in record {
+    let k = merge_known_before u z a b m c v ok in record {
       left = g.known a k.0;
       right = g.known b k.1;
-      number = (merge-sound-after u z a b m c v ok).2;
-      is = merge-tree u z a b m c v ok ∙ (rw (same_tree h g a k.0, same_tree h g b k.1));
+      number = (merge_sound_after u z a b m c v ok).2;
+      is = merge_tree u z a b m c v ok ∙ (rw (same_tree h g a k.0, same_tree h g b k.1));
     }
 step_says h (query z c r e) = tt
 step_says h (add s z x a s' ok) = tt

@@ -76,13 +76,13 @@ module _ {w v : List ℕ} {es : List Event} (l : length w ≡ store_words) (t : 
   rooted k = tree_root (store_of v) (holds end) (rw (store_length v (contexts v)) k)
 
   -- 0 swallows anything in a wildcard merge, from either side.
-  pub swallows-right : (a c : ℕ) → Memᴰ (merged true 0 a c) es → c ≡ 0
-  swallows-right a c h =
+  pub swallows_right : (a c : ℕ) → Memᴰ (merged true 0 a c) es → c ≡ 0
+  swallows_right a c h =
       let s = event_says start run h in
       one end c 0 s.number s.left (s.is ∙ ap (λ (F : Forest). merge_t true F (tree (store_of v) a)) (rooted s.left) ∙ mark_merge_t _ ∙ sym (rooted s.left))
 
-  pub swallows-left : (a c : ℕ) → Memᴰ (merged true a 0 c) es → c ≡ 0
-  swallows-left a c h =
+  pub swallows_left : (a c : ℕ) → Memᴰ (merged true a 0 c) es → c ≡ 0
+  swallows_left a c h =
       let s = event_says start run h in
       one end c 0 s.number s.right (s.is ∙ ap (merge_t true (tree (store_of v) a)) (rooted s.right) ∙ merge_t_mark _ ∙ sym (rooted s.right))
 

@@ -1,1 +1,2 @@
 // Runs of calls, one after another in one store: definitions and theorems alone.
+#![tactic(auto)]

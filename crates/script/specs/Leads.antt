@@ -4,7 +4,7 @@ use Rattle.std.proofs.Common.{sym, ap, ◌∙◌, arith}
 use Rattle.lines.specs.Lines.{end_line}
 use Rattle.replies.specs.Replies.{Lent, Printed}
 use Rattle.steps.specs.Steps.{fresh, goes, over, step_of, run_from, run_of, script_replies}
-use Rattle.steps.specs.Steps.Laws.{after?, step-forward, run-over, run-next}
+use Rattle.steps.specs.Steps.Laws.{after?, step_forward, run_over, run_next}
 
 -- from place i on, with the words l, the script s ends with the words m
 pub data Leads (s : List ℕ) : ℕ → Lent → Lent → Type 0 where
@@ -18,17 +18,17 @@ leads_from (suc k) s i l h =
     let t = step_of s i l in
     after? t.after
     (λ j q.
-    let f = step-forward s i l j q in
-    steps j q (rw (run-next s i l k j q) (leads_from k s j t.printed.words (omega arith))))
-    (λ q. ends q (sym (ap (λ (p : Printed). p.words) (run-over s i l k q))))
+    let f = step_forward s i l j q in
+    steps j q (rw (run_next s i l k j q) (leads_from k s j t.printed.words (omega arith))))
+    (λ q. ends q (sym (ap (λ (p : Printed). p.words) (run_over s i l k q))))
 
 -- and to no others
 words_from : (k : ℕ) (s : List ℕ) (i : ℕ) (l m : Lent) → length s - i < k → Leads s i l m → m ≡ (run_from k s i l).words
 words_from zero s i l m h v = absurd (omega arith)
-words_from (suc k) s i l m h (ends q e) = sym e ∙ sym (ap (λ (p : Printed). p.words) (run-over s i l k q))
+words_from (suc k) s i l m h (ends q e) = sym e ∙ sym (ap (λ (p : Printed). p.words) (run_over s i l k q))
 words_from (suc k) s i l m h (steps j q v) =
-    let f = step-forward s i l j q in
-    words_from k s j (step_of s i l).printed.words m (omega arith) v ∙ sym (ap (λ (p : Printed). p.words) (run-next s i l k j q))
+    let f = step_forward s i l j q in
+    words_from k s j (step_of s i l).printed.words m (omega arith) v ∙ sym (ap (λ (p : Printed). p.words) (run_next s i l k j q))
 
 pub leads_determined : (s : List ℕ) (i : ℕ) (l m n : Lent) → Leads s i l m → Leads s i l n → m ≡ n
 leads_determined s i l m n v w =

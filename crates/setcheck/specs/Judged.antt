@@ -9,8 +9,8 @@ use Rattle.sets.specs.Lists.{any}
 use Rattle.cases.specs.Bools.{never_both}
 use Rattle.sets.specs.Layout.{most_configs, set_words_length, config_at, config_count}
 use Rattle.sets.specs.Sets.{key, empty_set, with_configs, has_semantic, dips}
-use Rattle.sets.specs.Sets.Laws.{key-of-same, same-of-key}
-use Rattle.sets.specs.Chains.{last, last_found, last_none, linked-length, linked-other, chain-add}
+use Rattle.sets.specs.Sets.Laws.{key_of_same, same_of_key}
+use Rattle.sets.specs.Chains.{last, last_found, last_none, linked_length, linked_other, chain_add}
 use Rattle.sets.specs.Words.{bit, flags_of, configs_in, SoundSet}
 use Rattle.setcheck.specs.Flags.{joined_flags, joined_more}
 use Rattle.setcheck.specs.Keys.{key_heads, key_links, key_bucket, has_key, put_key, Keyed, SoughtKey}
@@ -55,37 +55,37 @@ SetVerdict v z k false u = (SoundSet k v → ⊥) × (length u ≡ scratch_words
 -- ---- one config more
 
 module _ {v z : List ℕ} {k n : ℕ} (p : PassedConfigs v z k n) (few : n < most_configs) (x : Config) (e : x ≡ config_at v n) where
-  pub unknown-bad : k ≤ x.context → GoodConfig v k n → ⊥
-  unknown-bad h g = omega (arith, rw e at h, g.known)
+  pub unknown_bad : k ≤ x.context → GoodConfig v k n → ⊥
+  unknown_bad h g = omega (arith, rw e at h, g.known)
 
   module _ (b : ℕ) (eb : b ≡ key_bucket (key x)) (small : b < 256) where
-    pub passed-sought : SoughtKey v z n x b
-    passed-sought = record { sized = p.sized; lent = p.lent; few = omega arith; chains = p.chains; bucket = eb; small = small }
+    pub passed_sought : SoughtKey v z n x b
+    passed_sought = record { sized = p.sized; lent = p.lent; few = omega arith; chains = p.chains; bucket = eb; small = small }
 
     -- its key stands before it
-    pub found-bad : (i : ℕ) → last (has_key v x) n ≡ at i → GoodConfig v k n → ⊥
-    found-bad i f g =
+    pub found_bad : (i : ℕ) → last (has_key v x) n ≡ at i → GoodConfig v k n → ⊥
+    found_bad i f g =
         let r = last_found (has_key v x) n i f in
-        g.new i r.0 (sym (key-of-same x (config_at v i) r.1) ∙ ap key e)
+        g.new i r.0 (sym (key_of_same x (config_at v i) r.1) ∙ ap key e)
 
     -- its key is new
-    new-good : x.context < k → last (has_key v x) n ≡ nowhere → GoodConfig v k n
-    new-good h f = record {
+    new_good : x.context < k → last (has_key v x) n ≡ nowhere → GoodConfig v k n
+    new_good h f = record {
       known = rw e at h;
-      new = λ j l q. never_both (same-of-key x (config_at v j) (ap key e ∙ sym q)) (last_none (has_key v x) n f j l);
+      new = λ j l q. never_both (same_of_key x (config_at v j) (ap key e ∙ sym q)) (last_none (has_key v x) n f j l);
     }
 
-    pub new-passed : x.context < k → last (has_key v x) n ≡ nowhere → (u : List ℕ) → u ≡ put_key z n b → PassedConfigs v u k (suc n) × SameIndex z u
-    new-passed h f u q =
+    pub new_passed : x.context < k → last (has_key v x) n ≡ nowhere → (u : List ℕ) → u ≡ put_key z n b → PassedConfigs v u k (suc n) × SameIndex z u
+    new_passed h f u q =
         let apart : key_heads + 256 ≤ key_links = omega arith in
         let room : key_links + n < length z = omega (arith, p.lent) in rw q (
           record {
             sized = p.sized;
-            lent = linked-length key_heads key_links n b z apart room small ∙ p.lent;
-            chains = chain-add key_heads key_links n b z apart room small _ (sym (eb ∙ ap (λ (y : Config). key_bucket (key y)) e)) p.chains;
-            good = λ i l. two i n (λ d. rw d (new-good h f)) (λ d. p.good i (omega arith));
+            lent = linked_length key_heads key_links n b z apart room small ∙ p.lent;
+            chains = chain_add key_heads key_links n b z apart room small _ (sym (eb ∙ ap (λ (y : Config). key_bucket (key y)) e)) p.chains;
+            good = λ i l. two i n (λ d. rw d (new_good h f)) (λ d. p.good i (omega arith));
           },
-          λ j l. linked-other key_heads key_links n b z apart room small j (omega arith) (omega arith),
+          λ j l. linked_other key_heads key_links n b z apart room small j (omega arith) (omega arith),
         )
 
 -- ---- all configs

@@ -7,8 +7,8 @@ use Rattle.layout.specs.Layout.{scratch_words}
 use Rattle.sets.specs.Config.{Config}
 use Rattle.sets.specs.Layout.{most_configs, set_words_length, config_at}
 use Rattle.sets.specs.Sets.{key, same_keys}
-use Rattle.sets.specs.Sets.Laws.{key-of-same}
-use Rattle.sets.specs.Chains.{last, Chained, linked, Going, going-begin, going-hit, going_on, going_end}
+use Rattle.sets.specs.Sets.Laws.{key_of_same}
+use Rattle.sets.specs.Chains.{last, Chained, linked, Going, going_begin, going_hit, going_on, going_end}
 use Rattle.setcheck.specs.declared.inner.keys.KeyPlace.{KeyPlace}
 use Rattle.setcheck.specs.declared.inner.keys.KeyPlace.TheVariants.{At, New}
 
@@ -67,22 +67,22 @@ Walking v n x k = Going (λ i. key_bucket (key (config_at v i))) (has_key v x) (
 module _ {v z : List ℕ} {n : ℕ} {x : Config} {b : ℕ} (s : SoughtKey v z n x b) where
   -- equal keys share a bucket
   shared : (i : ℕ) → has_key v x i ≡ true → key_bucket (key (config_at v i)) ≡ key_bucket (key x)
-  shared i e = ap key_bucket (sym (key-of-same x (config_at v i) e))
+  shared i e = ap key_bucket (sym (key_of_same x (config_at v i) e))
 
-  pub walk-begin : Walking v n x (get_or z (key_heads + b) 0)
-  walk-begin =
+  pub walk_begin : Walking v n x (get_or z (key_heads + b) 0)
+  walk_begin =
       let e = s.bucket in
-      rw e (going-begin _ (has_key v x) (key_bucket (key x)) shared key_heads key_links n z s.chains (rw e at s.small))
+      rw e (going_begin _ (has_key v x) (key_bucket (key x)) shared key_heads key_links n z s.chains (rw e at s.small))
 
   module _ (k : ℕ) (d : k ≡ 0 → ⊥) (g : Walking v n x k) where
     pub walk_here : k - 1 < most_configs
     walk_here = omega (arith, g.within, s.few)
 
-    pub walk-hit : true ≡ has_key v x (k - 1) → last (has_key v x) n ≡ at (k - 1)
-    walk-hit e = going-hit _ (has_key v x) (key_bucket (key x)) shared key_heads key_links n z s.chains k d g (sym e)
+    pub walk_hit : true ≡ has_key v x (k - 1) → last (has_key v x) n ≡ at (k - 1)
+    walk_hit e = going_hit _ (has_key v x) (key_bucket (key x)) shared key_heads key_links n z s.chains k d g (sym e)
 
-    pub walk-on : false ≡ has_key v x (k - 1) → Walking v n x (get_or z (key_links + (k - 1)) 0) × (get_or z (key_links + (k - 1)) 0 < k)
-    walk-on e = going_on _ (has_key v x) (key_bucket (key x)) shared key_heads key_links n z s.chains k d g (sym e)
+    pub walk_on : false ≡ has_key v x (k - 1) → Walking v n x (get_or z (key_links + (k - 1)) 0) × (get_or z (key_links + (k - 1)) 0 < k)
+    walk_on e = going_on _ (has_key v x) (key_bucket (key x)) shared key_heads key_links n z s.chains k d g (sym e)
 
   pub walk_end : (k : ℕ) → k ≡ 0 → Walking v n x k → last (has_key v x) n ≡ nowhere
   walk_end k e g = going_end _ (has_key v x) (key_bucket (key x)) shared key_heads key_links n z s.chains k e g

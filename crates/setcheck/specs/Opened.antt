@@ -21,7 +21,7 @@ use Rattle.store.specs.declared.inner.admit.Admitted.TheVariants.{Ready as ready
 use Rattle.cases.specs.Bools.{bool?}
 use Rattle.sets.specs.Layout.{set_words_length, config_count}
 use Rattle.sets.specs.Words.{SoundSet}
-use Rattle.sets.specs.Sound.{true-sound-set, sound-set-false}
+use Rattle.sets.specs.Sound.{true_sound_set, sound_set_false}
 use Rattle.store.specs.Checks.Laws.{Due, Clear}
 use Rattle.sets.specs.Calls.{refused, set_left, refusal, lent_lengths, lent_checks}
 use Rattle.setcheck.specs.Keys.{Keyed}
@@ -44,17 +44,17 @@ abbrev store_lengths : List ℕ → List ℕ → Bool
 store_lengths w z = eqb (length w) store_words && eqb (length z) scratch_words
 
 module _ (w z : List ℕ) (go : Left) where
-  checked-short : store_lengths w z ≡ false → checked w z go ≡ leaves (notSet 2) w z
+  checked_short : store_lengths w z ≡ false → checked w z go ≡ leaves (notSet 2) w z
   unfolding checked if_lengths
-  checked-short e = rw (e, if_lengths)
+  checked_short e = rw (e, if_lengths)
 
-  checked-unsound : store_lengths w z ≡ true → sound w ≡ false → checked w z go ≡ leaves (notSet 1) w zeros
+  checked_unsound : store_lengths w z ≡ true → sound w ≡ false → checked w z go ≡ leaves (notSet 1) w zeros
   unfolding checked if_lengths if_sound
-  checked-unsound e f = rw (e, if_lengths) (rw (f, if_sound))
+  checked_unsound e f = rw (e, if_lengths) (rw (f, if_sound))
 
-  checked-goes : store_lengths w z ≡ true → sound w ≡ true → checked w z go ≡ go
+  checked_goes : store_lengths w z ≡ true → sound w ≡ true → checked w z go ≡ go
   unfolding checked if_lengths if_sound
-  checked-goes e f = rw (e, if_lengths) (rw (f, if_sound))
+  checked_goes e f = rw (e, if_lengths) (rw (f, if_sound))
 
 module _ (w z u : List ℕ) where
   -- an outcome that is no refusal
@@ -67,58 +67,58 @@ module _ (w z u : List ℕ) where
   outcomes : (n m : ℕ) (x y : List ℕ) → Outcome n x ≡ Outcome m y → (n ≡ m) × (x ≡ y)
   outcomes n m x y e = let q : notSet n ≡ notSet m = ap (λ (l : Left). l.reply) e in (cc, ap (λ (l : Left). l.scratch) e)
 
-  not-other : (n : ℕ) (x : List ℕ) → Outcome n x ≡ other → ⊥
+  not_other : (n : ℕ) (x : List ℕ) → Outcome n x ≡ other → ⊥
   unfolding other
-  not-other n x e = let q : notSet n ≡ none = ap (λ (l : Left). l.reply) e in let k : ◌≡◌ {A = ℕ} 0 1 = cc in omega arith
+  not_other n x e = let q : notSet n ≡ none = ap (λ (l : Left). l.reply) e in let k : ◌≡◌ {A = ℕ} 0 1 = cc in omega arith
 
-  pub ready-lengths : Opened w z ready u → (store_lengths w z ≡ true) × (sound w ≡ true)
-  ready-lengths o =
+  pub ready_lengths : Opened w z ready u → (store_lengths w z ≡ true) × (sound w ≡ true)
+  ready_lengths o =
       bool? (store_lengths w z)
-      (λ e. bool? (sound w) (λ f. (e, f)) (λ f. absurd (not-other 1 zeros (sym (checked-unsound w z other e f) ∙ o.1 other))))
-      (λ e. absurd (not-other 2 z (sym (checked-short w z other e) ∙ o.1 other)))
+      (λ e. bool? (sound w) (λ f. (e, f)) (λ f. absurd (not_other 1 zeros (sym (checked_unsound w z other e f) ∙ o.1 other))))
+      (λ e. absurd (not_other 2 z (sym (checked_short w z other e) ∙ o.1 other)))
 
   -- a refusal of the store: 2 with the scratch as it was, or 1 with the scratch cleared
-  pub refused-lengths {ℓ} : {X : Type ℓ} (f : Refusal) → Opened w z (Refused f) u
+  pub refused_lengths {ℓ} : {X : Type ℓ} (f : Refusal) → Opened w z (Refused f) u
       → (store_lengths w z ≡ false → number f ≡ 2 → u ≡ z → X)
       → (store_lengths w z ≡ true → sound w ≡ false → number f ≡ 1 → u ≡ zeros → X)
       → X
-  refused-lengths f o short unsound =
+  refused_lengths f o short unsound =
       bool? (store_lengths w z)
       (λ e. bool? (sound w)
-      (λ g. absurd (not-other (number f) u (sym (o other) ∙ checked-goes w z other e g)))
-      (λ g. let r = outcomes 1 (number f) zeros u (sym (checked-unsound w z other e g) ∙ o other) in unsound e g (sym r.0) (sym r.1)))
-      (λ e. let r = outcomes 2 (number f) z u (sym (checked-short w z other e) ∙ o other) in short e (sym r.0) (sym r.1))
+      (λ g. absurd (not_other (number f) u (sym (o other) ∙ checked_goes w z other e g)))
+      (λ g. let r = outcomes 1 (number f) zeros u (sym (checked_unsound w z other e g) ∙ o other) in unsound e g (sym r.0) (sym r.1)))
+      (λ e. let r = outcomes 2 (number f) z u (sym (checked_short w z other e) ∙ o other) in short e (sym r.0) (sym r.1))
 
 -- ---- the set's length beside them
 
 module _ (w v z : List ℕ) where
-  pub short-set : (length v ≡ set_words_length → ⊥) → OpenedSet w v z (Refused WrongLength) z
+  pub short_set : (length v ≡ set_words_length → ⊥) → OpenedSet w v z (Refused WrongLength) z
   unfolding lent_checks lent_lengths refusal
-  short-set n = (rw (ne_eqb (length v) set_words_length n, and-false (eqb (length w) store_words)), refl)
+  short_set n = (rw (ne_eqb (length v) set_words_length n, and-false (eqb (length w) store_words)), refl)
 
   module _ (l : length v ≡ set_words_length) where
-    lent-lengths : lent_lengths w v z ≡ store_lengths w z
+    lent_lengths_lem : lent_lengths w v z ≡ store_lengths w z
     unfolding lent_lengths
-    lent-lengths = rw (eq-eqb (length v) set_words_length l)
+    lent_lengths_lem = rw (eq-eqb (length v) set_words_length l)
 
-    pub refused-store : (f : Refusal) (u : List ℕ) → Opened w z (Refused f) u → OpenedSet w v z (Refused f) u
+    pub refused_store : (f : Refusal) (u : List ℕ) → Opened w z (Refused f) u → OpenedSet w v z (Refused f) u
     unfolding lent_checks refusal
-    refused-store f u o =
-        refused-lengths w z u f o
-        (λ e n q. rw (n, q, lent-lengths, e) (refl, refl))
-        (λ e g n q. rw (n, q, lent-lengths, e, g) ((refl, refl), refl))
+    refused_store f u o =
+        refused_lengths w z u f o
+        (λ e n q. rw (n, q, lent_lengths_lem, e) (refl, refl))
+        (λ e g n q. rw (n, q, lent_lengths_lem, e, g) ((refl, refl), refl))
 
     module _ (y u : List ℕ) (o : Opened w z ready y) where
-      pub unsound-set : SetVerdict v y (contexts w) false u → (x : List ℕ) → x ≡ replicate (length u) 0 → OpenedSet w v z (Refused UnsoundSet) x
+      pub unsound_set : SetVerdict v y (contexts w) false u → (x : List ℕ) → x ≡ replicate (length u) 0 → OpenedSet w v z (Refused UnsoundSet) x
       unfolding lent_checks refusal
-      unsound-set s x e =
-          let r = ready-lengths w z y o in
-          rw (lent-lengths, r.0, r.1, sound-set-false (contexts w) v s.0, e, cleared u s.1) ((refl, (refl, refl)), refl)
+      unsound_set s x e =
+          let r = ready_lengths w z y o in
+          rw (lent_lengths_lem, r.0, r.1, sound_set_false (contexts w) v s.0, e, cleared u s.1) ((refl, (refl, refl)), refl)
 
-      pub ready-set : SetVerdict v y (contexts w) true u → OpenedSet w v z ready u
+      pub ready_set : SetVerdict v y (contexts w) true u → OpenedSet w v z ready u
       unfolding lent_checks
-      ready-set s =
-          let r = ready-lengths w z y o in
+      ready_set s =
+          let r = ready_lengths w z y o in
           let live = o.0 in (
             record {
               store = record {
@@ -131,5 +131,5 @@ module _ (w v z : List ℕ) where
               sound = s.0;
               keys = s.2;
             },
-            rw (lent-lengths, r.0, r.1, true-sound-set (contexts w) v l s.0) (refl, (refl, (refl, tt))),
+            rw (lent_lengths_lem, r.0, r.1, true_sound_set (contexts w) v l s.0) (refl, (refl, (refl, tt))),
           )

@@ -58,7 +58,7 @@ module _ (b : List ℕ) (r : ℕ) (u t xs : List ℕ) where
   unfolding stops_call unless refusal_line
   too_many h v = rw (lt-ltb most_stops (length xs) h, unless) (v, refl)
 
-  pub held-call : (n : ℕ) (t' : List ℕ) → length xs ≡ n → n ≤ most_stops → t' ≡ stop_words xs → Wrote b 0 (number_line 83 n) r u
+  pub held_call : (n : ℕ) (t' : List ℕ) → length xs ≡ n → n ≤ most_stops → t' ≡ stop_words xs → Wrote b 0 (number_line 83 n) r u
       → Wrote b 0 (stops_call t xs).0 r u × (t' ≡ (stops_call t xs).1)
   unfolding stops_call unless stops_line
-  held-call n t' l h e v = rw (le-ltb most_stops (length xs) (omega arith), unless) (rw (← l) at v, e)
+  held_call n t' l h e v = rw (le-ltb most_stops (length xs) (omega arith), unless) (rw (← l) at v, e)

@@ -32,16 +32,16 @@ pub record Renewed (b v z : List ℕ) (full : Bool) (r : ℕ) (u v' z' : List �
   pub over : (w : List ℕ) → SetReplied b new_set_line (new_set_call w v z full) r u w v' z'
 
 module _ (b : List ℕ) (r : ℕ) (u v v' z : List ℕ) (full : Bool) (a : Settled) (e : (settled a, v') ≡ fresh_set_call v full) where
-  pub new-done : a ≡ Done → (z' : List ℕ) → z' ≡ wiped z → Wrote b 0 new_set_line r u → Renewed b v z full r u v' z'
+  pub new_done : a ≡ Done → (z' : List ℕ) → z' ≡ wiped z → Wrote b 0 new_set_line r u → Renewed b v z full r u v' z'
   unfolding new_set_call set_line_of
-  new-done q z' y p =
+  new_done q z' y p =
       let g : (settled Done, v') ≡ fresh_set_call v full = rw q at e in
       record { over = λ w. rw (← g) (record { wrote = p; store = refl; set = refl; scratch = y }) }
 
-  pub new-refused : (f : Refusal) → a ≡ NotSettled f → (n : ℕ) → n ≡ number f → Wrote b 0 (number_line 82 n) r u
+  pub new_refused : (f : Refusal) → a ≡ NotSettled f → (n : ℕ) → n ≡ number f → Wrote b 0 (number_line 82 n) r u
       → Renewed b v z full r u v' z
   unfolding new_set_call set_line_of refusal_line
-  new-refused f q n m p =
+  new_refused f q n m p =
       let g : (settled (NotSettled f), v') ≡ fresh_set_call v full = rw q at e in
       record { over = λ w. rw (← g) (record { wrote = rw m at p; store = refl; set = refl; scratch = refl }) }
 
@@ -58,29 +58,29 @@ added_call b x (Merged k) r u w v z e p = rw (← e) (record { wrote = p; store 
 added_call b x (NotAdded f) r u w v z e p = rw (← e) (record { wrote = p; store = refl; set = refl; scratch = refl })
 
 module _ (b : List ℕ) (j : ℕ) (u : List ℕ) (a : Added) where
-  pub inserted-line : a ≡ Inserted → Wrote b 0 (numbers_line 65 1 0) j u → Wrote b 0 (added_line_of a) j u
+  pub inserted_line : a ≡ Inserted → Wrote b 0 (numbers_line 65 1 0) j u → Wrote b 0 (added_line_of a) j u
   unfolding set_line_of added_line
-  inserted-line e v = rw e v
+  inserted_line e v = rw e v
 
-  pub merged-line : (k : Tally) → a ≡ Merged k → Wrote b 0 (numbers_line 65 0 k.made) j u → Wrote b 0 (added_line_of a) j u
+  pub merged_line : (k : Tally) → a ≡ Merged k → Wrote b 0 (numbers_line 65 0 k.made) j u → Wrote b 0 (added_line_of a) j u
   unfolding set_line_of added_line
-  merged-line k e v = rw e v
+  merged_line k e v = rw e v
 
-  pub not-added-line : (f : Refusal) (n : ℕ) → a ≡ NotAdded f → n ≡ number f → Wrote b 0 (number_line 82 n) j u → Wrote b 0 (added_line_of a) j u
+  pub not_added_line : (f : Refusal) (n : ℕ) → a ≡ NotAdded f → n ≡ number f → Wrote b 0 (number_line 82 n) j u → Wrote b 0 (added_line_of a) j u
   unfolding set_line_of refusal_line
-  not-added-line f n e q v = rw e (rw q at v)
+  not_added_line f n e q v = rw e (rw q at v)
 
 -- ---- a set closed
 
 module _ (b e : List ℕ) (x : SetLeft) (a : Settled) (r : ℕ) (u w v z : List ℕ) (c : set_left (settled a) w v z ≡ x) where
-  pub closed-done : a ≡ Done → Wrote b 0 e r u → SetReplied b e x r u w v z
+  pub closed_done : a ≡ Done → Wrote b 0 e r u → SetReplied b e x r u w v z
   unfolding set_line_of
-  closed-done q p =
+  closed_done q p =
       let g : set_left (settled Done) w v z ≡ x = rw q at c in
       rw (← g) (record { wrote = p; store = refl; set = refl; scratch = refl })
 
-  pub closed-refused : (f : Refusal) → a ≡ NotSettled f → (n : ℕ) → n ≡ number f → Wrote b 0 (number_line 82 n) r u → SetReplied b e x r u w v z
+  pub closed_refused : (f : Refusal) → a ≡ NotSettled f → (n : ℕ) → n ≡ number f → Wrote b 0 (number_line 82 n) r u → SetReplied b e x r u w v z
   unfolding set_line_of refusal_line
-  closed-refused f q n m p =
+  closed_refused f q n m p =
       let g : set_left (settled (NotSettled f)) w v z ≡ x = rw q at c in
       rw (← g) (record { wrote = rw m at p; store = refl; set = refl; scratch = refl })

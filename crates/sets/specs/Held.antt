@@ -12,7 +12,7 @@ use Rattle.sets.specs.Config.{Config}
 use Rattle.sets.specs.Layout.{most_configs, config_words, first_config, set_words_length, fields, field, config_at, config_count, flag_word, flag}
 use Rattle.sets.specs.Sets.{Set, has_semantic, dips}
 use Rattle.sets.specs.Words.{flags_of, set_words, configs_in, set_of}
-use Rattle.sets.specs.Flags.{flags_are, four-first, four-fourth}
+use Rattle.sets.specs.Flags.{flags_are, four_first, four_fourth}
 use Rattle.sets.specs.Listed.{configs_length}
 
 -- ---- the words of a config, read and written
@@ -123,29 +123,29 @@ module _ (S : Set) (few : length S.configs ≤ most_configs) where
   abbrev zs : List ℕ
   zs = blank (config_words * (most_configs - length S.configs))
 
-  words-sized : length (set_words S) ≡ set_words_length
+  words_sized : length (set_words S) ≡ set_words_length
   unfolding set_words
-  words-sized =
+  words_sized =
       omega (arith, length-append (flat_map fields S.configs) zs, all_length S.configs, length_blank (config_words * (most_configs - length S.configs)))
 
-  words-unused : (j : ℕ) → first_config + config_words * length S.configs ≤ j → j < set_words_length → get_or (set_words S) j 0 ≡ 0
+  words_unused : (j : ℕ) → first_config + config_words * length S.configs ≤ j → j < set_words_length → get_or (set_words S) j 0 ≡ 0
   unfolding set_words
-  words-unused j h k =
+  words_unused j h k =
       let m : ℕ = j - (first_config + config_words * length S.configs) in
       let e : j ≡ suc (suc (length (flat_map fields S.configs) + m)) = omega (arith, all_length S.configs) in
       ap (λ (i : ℕ). get_or (set_words S) i 0) e ∙ get_or-append-add (flat_map fields S.configs) zs m 0
       ∙ get_or_blank (config_words * (most_configs - length S.configs)) m (omega arith)
 
-  words-configs : configs_in (set_words S) (length S.configs) ≡ S.configs
+  words_configs : configs_in (set_words S) (length S.configs) ≡ S.configs
   unfolding set_words
-  words-configs =
+  words_configs =
       let n : ℕ = length S.configs in
       all_configs (configs_in (set_words S) n) S.configs (configs_length (set_words S) n)
-      (all_taken (set_words S) n (omega (arith, words-sized)) ∙ take_at (flat_map fields S.configs) zs (config_words * n) (all_length S.configs))
+      (all_taken (set_words S) n (omega (arith, words_sized)) ∙ take_at (flat_map fields S.configs) zs (config_words * n) (all_length S.configs))
 
   pub words_held : HeldSet (set_words S) S
   unfolding set_words config_count flag_word
-  words_held = record { sized = words-sized; few = few; count = refl; flags = refl; configs = words-configs; unused = words-unused }
+  words_held = record { sized = words_sized; few = few; count = refl; flags = refl; configs = words_configs; unused = words_unused }
 
 -- the set that words hold is the one that they are read as
 pub held_set : (v : List ℕ) (S : Set) → HeldSet v S → set_of v ≡ S
@@ -154,8 +154,8 @@ held_set v S h =
     rw (
       h.flags,
       flags_are S,
-      four-first S.full (has_semantic S.configs) (dips S.configs) S.closed,
-      four-fourth S.full (has_semantic S.configs) (dips S.configs) S.closed,
+      four_first S.full (has_semantic S.configs) (dips S.configs) S.closed,
+      four_fourth S.full (has_semantic S.configs) (dips S.configs) S.closed,
       h.count,
       h.configs,
     )

@@ -13,7 +13,7 @@ use Rattle.sets.specs.Lists.{any}
 use Rattle.cases.specs.Bools.{bool?, is_false, either}
 use Rattle.sets.specs.Layout.{config_at, config_count}
 use Rattle.sets.specs.Sets.{key, same_keys, held, joined, joined_all, has_semantic, dips}
-use Rattle.sets.specs.Sets.Laws.{key-of-same, held-last, held_more}
+use Rattle.sets.specs.Sets.Laws.{key_of_same, held_last, held_more}
 use Rattle.sets.specs.Words.{configs_in, SoundSet}
 use Rattle.sets.specs.Listed.{configs_length, last_equal, none_any}
 
@@ -22,44 +22,44 @@ unfoldable pub joined_if : Config → ℕ → Config → Config
 joined_if x c y = elim (same_keys x y) [ true ↦ joined x c y | false ↦ y ]
 
 module _ (x : Config) (c : ℕ) where
-  pub joined-here : (y : Config) → same_keys x y ≡ true → joined_if x c y ≡ joined x c y
+  pub joined_here : (y : Config) → same_keys x y ≡ true → joined_if x c y ≡ joined x c y
   unfolding joined_if
-  joined-here y e = rw (e, joined_if)
+  joined_here y e = rw (e, joined_if)
 
-  pub joined-other : (y : Config) → same_keys x y ≡ false → joined_if x c y ≡ y
+  pub joined_other : (y : Config) → same_keys x y ≡ false → joined_if x c y ≡ y
   unfolding joined_if
-  joined-other y e = rw (e, joined_if)
+  joined_other y e = rw (e, joined_if)
 
-  pub joined-first : (y : Config) (ys : List Config) → joined_all x c (y ∷ ys) ≡ joined_if x c y ∷ joined_all x c ys
+  pub joined_first : (y : Config) (ys : List Config) → joined_all x c (y ∷ ys) ≡ joined_if x c y ∷ joined_all x c ys
   unfolding joined_all joined_if
-  joined-first y ys = refl
+  joined_first y ys = refl
 
-  pub joined-none : joined_all x c [] ≡ []
+  pub joined_none : joined_all x c [] ≡ []
   unfolding joined_all
-  joined-none = refl
+  joined_none = refl
 
   pub joined_more : (cs : List Config) (y : Config) → joined_all x c (cs ++ (y ∷ [])) ≡ joined_all x c cs ++ (joined_if x c y ∷ [])
-  joined_more [] y = joined-first y [] ∙ rw joined-none
-  joined_more (z ∷ zs) y = joined-first z (zs ++ (y ∷ [])) ∙ rw (joined_more zs y, joined-first z zs)
+  joined_more [] y = joined_first y [] ∙ rw joined_none
+  joined_more (z ∷ zs) y = joined_first z (zs ++ (y ∷ [])) ∙ rw (joined_more zs y, joined_first z zs)
 
   pub joined_length : (cs : List Config) → length (joined_all x c cs) ≡ length cs
-  joined_length [] = rw joined-none
-  joined_length (y ∷ ys) = ap length (joined-first y ys) ∙ ap suc (joined_length ys)
+  joined_length [] = rw joined_none
+  joined_length (y ∷ ys) = ap length (joined_first y ys) ∙ ap suc (joined_length ys)
 
   -- ---- flags
 
-  semantic-same : (y : Config) → (joined_if x c y).semantic ≡ y.semantic
+  semantic_same : (y : Config) → (joined_if x c y).semantic ≡ y.semantic
   unfolding joined
-  semantic-same y =
-      bool? (same_keys x y) (λ e. ap (λ (z : Config). z.semantic) (joined-here y e)) (λ e. ap (λ (z : Config). z.semantic) (joined-other y e))
+  semantic_same y =
+      bool? (same_keys x y) (λ e. ap (λ (z : Config). z.semantic) (joined_here y e)) (λ e. ap (λ (z : Config). z.semantic) (joined_other y e))
 
-  pub semantic-joined : (cs : List Config) → has_semantic (joined_all x c cs) ≡ has_semantic cs
+  pub semantic_joined : (cs : List Config) → has_semantic (joined_all x c cs) ≡ has_semantic cs
   unfolding has_semantic any
-  semantic-joined [] = rw joined-none
-  semantic-joined (y ∷ ys) = rw (joined-first y ys, semantic-same y, semantic-joined ys)
+  semantic_joined [] = rw joined_none
+  semantic_joined (y ∷ ys) = rw (joined_first y ys, semantic_same y, semantic_joined ys)
 
-  positive-max : (a b : ℕ) → ltb 0 (max a b) ≡ (ltb 0 a || ltb 0 b)
-  positive-max a b =
+  positive_max : (a b : ℕ) → ltb 0 (max a b) ≡ (ltb 0 a || ltb 0 b)
+  positive_max a b =
       two a 0
       (λ e. rw (le-ltb 0 a (omega arith)) (two b 0 (λ d. le-ltb 0 (max a b) (omega arith) ∙ sym (le-ltb 0 b (omega arith)))
       (λ d. lt-ltb 0 (max a b) (omega arith) ∙ sym (lt-ltb 0 b (omega arith)))))
@@ -70,15 +70,15 @@ module _ (x : Config) (c : ℕ) where
   here false true d k = sym (or-true d)
   here false false d k = ap (λ (b : Bool). d || b) (and-false k)
 
-  pub dips-joined : (cs : List Config) → dips (joined_all x c cs) ≡ (dips cs || (any (same_keys x) cs && ltb 0 x.reach))
+  pub dips_joined : (cs : List Config) → dips (joined_all x c cs) ≡ (dips cs || (any (same_keys x) cs && ltb 0 x.reach))
   unfolding dips any joined
-  dips-joined [] = rw joined-none
-  dips-joined (y ∷ ys) =
+  dips_joined [] = rw joined_none
+  dips_joined (y ∷ ys) =
       let t : Config → Bool = λ z. ltb 0 z.reach in
       bool? (same_keys x y)
-      (λ e. rw (joined-first y ys, joined-here y e, dips-joined ys, positive-max y.reach x.reach, e)
+      (λ e. rw (joined_first y ys, joined_here y e, dips_joined ys, positive_max y.reach x.reach, e)
       (here (t y) (t x) (any t ys) (any (same_keys x) ys)))
-      (λ e. rw (joined-first y ys, joined-other y e, dips-joined ys, e) (sym (or_assoc (t y) (any t ys) (any (same_keys x) ys && t x))))
+      (λ e. rw (joined_first y ys, joined_other y e, dips_joined ys, e) (sym (or_assoc (t y) (any t ys) (any (same_keys x) ys && t x))))
 
 -- each config is joined where it has the key
 pub joined_at : (x : Config) (c : ℕ) (u v : List ℕ) (n : ℕ) → configs_in u n ≡ joined_all x c (configs_in v n) → (i : ℕ) → i < n → config_at u i ≡ joined_if x c (config_at v i)
@@ -98,7 +98,7 @@ semantic_known x [] e = cc
 semantic_known x (y ∷ ys) e =
     let t : Config → Bool = λ z. not (eqb z.semantic 0) in
     either (same_keys x y) (any (same_keys x) ys) e
-    (λ s. let q : x.semantic ≡ y.semantic = cc (key-of-same x y s) in rw q (again (t y) (any t ys)))
+    (λ s. let q : x.semantic ≡ y.semantic = cc (key_of_same x y s) in rw q (again (t y) (any t ys)))
     (λ s. or_assoc (t y) (any t ys) (t x) ∙ ap (λ (b : Bool). t y || b) (semantic_known x ys s))
   where
     again : (a b : Bool) → ((a || b) || a) ≡ (a || b)
@@ -108,35 +108,35 @@ semantic_known x (y ∷ ys) e =
 -- ---- in words whose keys differ
 
 module _ {k : ℕ} {v : List ℕ} (s : SoundSet k v) (x : Config) (i : ℕ) (l : i < config_count v) (same : same_keys x (config_at v i) ≡ true) where
-  pub only-key : (j : ℕ) → j < config_count v → j ≢ i → same_keys x (config_at v j) ≡ false
-  only-key j h d =
+  pub only_key : (j : ℕ) → j < config_count v → j ≢ i → same_keys x (config_at v j) ≡ false
+  only_key j h d =
       is_false _ (λ e.
-      let q : key (config_at v j) ≡ key (config_at v i) = sym (key-of-same x (config_at v j) e) ∙ key-of-same x (config_at v i) same in
+      let q : key (config_at v j) ≡ key (config_at v i) = sym (key_of_same x (config_at v j) e) ∙ key_of_same x (config_at v i) same in
       three j i (λ a. s.differ j i a l q) (λ a. d a) (λ a. s.differ i j a h (sym q)))
 
   -- the config is found by its key
-  held-part : (n : ℕ) → i < n → n ≤ config_count v → held x (configs_in v n) ≡ at (config_at v i).context
+  held_part : (n : ℕ) → i < n → n ≤ config_count v → held x (configs_in v n) ≡ at (config_at v i).context
   unfolding configs_in
-  held-part zero a b = absurd (omega arith)
-  held-part (suc n) a b =
+  held_part zero a b = absurd (omega arith)
+  held_part (suc n) a b =
       two i n
-      (λ e. rw (← e) (held-last x (configs_in v i) (config_at v i) (none_any (same_keys x) v i (λ j h. only-key j (omega arith) (omega arith))) same))
-      (λ d. held_more x (configs_in v n) (config_at v n) (only-key n (omega arith) (omega arith)) ∙ held-part n (omega arith) (omega arith))
+      (λ e. rw (← e) (held_last x (configs_in v i) (config_at v i) (none_any (same_keys x) v i (λ j h. only_key j (omega arith) (omega arith))) same))
+      (λ d. held_more x (configs_in v n) (config_at v n) (only_key n (omega arith) (omega arith)) ∙ held_part n (omega arith) (omega arith))
 
-  pub held-here : held x (configs_in v (config_count v)) ≡ at (config_at v i).context
-  held-here = held-part (config_count v) l (omega arith)
+  pub held_here : held x (configs_in v (config_count v)) ≡ at (config_at v i).context
+  held_here = held_part (config_count v) l (omega arith)
 
   -- words that differ in that config alone hold the configs joined
   module _ (c : ℕ) (u : List ℕ) (new : config_at u i ≡ joined x c (config_at v i)) (old : (j : ℕ) → j ≢ i → config_at u j ≡ config_at v j) where
-    joined-part : (n : ℕ) → n ≤ config_count v → configs_in u n ≡ joined_all x c (configs_in v n)
+    joined_part : (n : ℕ) → n ≤ config_count v → configs_in u n ≡ joined_all x c (configs_in v n)
     unfolding configs_in
-    joined-part zero h = sym (joined-none x c)
-    joined-part (suc n) h =
+    joined_part zero h = sym (joined_none x c)
+    joined_part (suc n) h =
         let e : config_at u n ≡ joined_if x c (config_at v n) =
         two n i
-        (λ q. rw q (new ∙ sym (joined-here x c (config_at v i) same)))
-        (λ q. old n q ∙ sym (joined-other x c (config_at v n) (only-key n (omega arith) q))) in
-        rw (joined-part n (omega arith), e) (sym (joined_more x c (configs_in v n) (config_at v n)))
+        (λ q. rw q (new ∙ sym (joined_here x c (config_at v i) same)))
+        (λ q. old n q ∙ sym (joined_other x c (config_at v n) (only_key n (omega arith) q))) in
+        rw (joined_part n (omega arith), e) (sym (joined_more x c (configs_in v n) (config_at v n)))
 
-    pub joined-configs : configs_in u (config_count v) ≡ joined_all x c (configs_in v (config_count v))
-    joined-configs = joined-part (config_count v) (omega arith)
+    pub joined_configs : configs_in u (config_count v) ≡ joined_all x c (configs_in v (config_count v))
+    joined_configs = joined_part (config_count v) (omega arith)

@@ -11,10 +11,10 @@ use Rattle.cases.specs.Numbers.{two}
 use Rattle.sets.specs.Config.{Config}
 use Rattle.sets.specs.Lists.{any, all}
 use Rattle.cases.specs.Bools.{is_false, never_both, either, or_right, both_true, and_left, and_right}
-use Rattle.sets.specs.Lists.Laws.{any-more, all_more}
+use Rattle.sets.specs.Lists.Laws.{any_more, all_more}
 use Rattle.sets.specs.Layout.{config_at}
 use Rattle.sets.specs.Sets.{key, same_keys}
-use Rattle.sets.specs.Sets.Laws.{key-of-same, same-of-key, same_symmetric}
+use Rattle.sets.specs.Sets.Laws.{key_of_same, same_of_key, same_symmetric}
 use Rattle.sets.specs.Words.{configs_in, distinct}
 
 pub configs_length : (v : List ℕ) (n : ℕ) → length (configs_in v n) ≡ n
@@ -48,31 +48,31 @@ module _ (t : Config → Bool) (v : List ℕ) where
   unfolding configs_in any
   any_at zero e = never_both e refl
   any_at (suc n) e =
-      either (any t (configs_in v n)) (t (config_at v n)) (sym (any-more t (configs_in v n) (config_at v n)) ∙ e)
+      either (any t (configs_in v n)) (t (config_at v n)) (sym (any_more t (configs_in v n) (config_at v n)) ∙ e)
       (λ h. let r = any_at n h in (r.0, omega (arith, r.1), r.2))
       (λ h. (n, omega arith, h))
 
-  pub at-any : (n i : ℕ) → i < n → t (config_at v i) ≡ true → any t (configs_in v n) ≡ true
+  pub at_any : (n i : ℕ) → i < n → t (config_at v i) ≡ true → any t (configs_in v n) ≡ true
   unfolding configs_in
-  at-any zero i l e = absurd (omega arith)
-  at-any (suc n) i l e =
-      any-more t (configs_in v n) (config_at v n)
+  at_any zero i l e = absurd (omega arith)
+  at_any (suc n) i l e =
+      any_more t (configs_in v n) (config_at v n)
       ∙ two i n
       (λ d. or_right (any t (configs_in v n)) (t (config_at v n)) (rw d at e))
-      (λ d. rw (at-any n i (omega arith) e))
+      (λ d. rw (at_any n i (omega arith) e))
 
   pub any_none : (n : ℕ) → any t (configs_in v n) ≡ false → (i : ℕ) → i < n → t (config_at v i) ≡ false
-  any_none n e i l = is_false _ (λ h. never_both (at-any n i l h) e)
+  any_none n e i l = is_false _ (λ h. never_both (at_any n i l h) e)
 
   pub none_any : (n : ℕ) → ((i : ℕ) → i < n → t (config_at v i) ≡ false) → any t (configs_in v n) ≡ false
   none_any n f = is_false _ (λ h. let r = any_at n h in never_both r.2 (f r.0 r.1))
 
-  pub all-at : (n : ℕ) → all t (configs_in v n) ≡ true → (i : ℕ) → i < n → t (config_at v i) ≡ true
+  pub all_at : (n : ℕ) → all t (configs_in v n) ≡ true → (i : ℕ) → i < n → t (config_at v i) ≡ true
   unfolding configs_in
-  all-at zero e i l = absurd (omega arith)
-  all-at (suc n) e i l =
+  all_at zero e i l = absurd (omega arith)
+  all_at (suc n) e i l =
       let h : (all t (configs_in v n) && t (config_at v n)) ≡ true = sym (all_more t (configs_in v n) (config_at v n)) ∙ e in
-      two i n (λ d. rw d (and_right (all t (configs_in v n)) _ h)) (λ d. all-at n (and_left (all t (configs_in v n)) _ h) i (omega arith))
+      two i n (λ d. rw d (and_right (all t (configs_in v n)) _ h)) (λ d. all_at n (and_left (all t (configs_in v n)) _ h) i (omega arith))
 
   pub at_all : (n : ℕ) → ((i : ℕ) → i < n → t (config_at v i) ≡ true) → all t (configs_in v n) ≡ true
   unfolding configs_in all
@@ -90,26 +90,26 @@ pub distinct_more : (cs : List Config) (y : Config) → distinct (cs ++ (y ∷ [
 unfolding distinct any
 distinct_more [] y = refl
 distinct_more (x ∷ cs) y =
-    rw (any-more (same_keys x) cs y, distinct_more cs y, same_symmetric y x) (regroup (any (same_keys x) cs) (same_keys x y) (distinct cs) (any (same_keys y) cs))
+    rw (any_more (same_keys x) cs y, distinct_more cs y, same_symmetric y x) (regroup (any (same_keys x) cs) (same_keys x y) (distinct cs) (any (same_keys y) cs))
 
 module _ (v : List ℕ) where
-  pub distinct-at : (n : ℕ) → distinct (configs_in v n) ≡ true → (i j : ℕ) → i < j → j < n → key (config_at v i) ≡ key (config_at v j) → ⊥
+  pub distinct_at : (n : ℕ) → distinct (configs_in v n) ≡ true → (i j : ℕ) → i < j → j < n → key (config_at v i) ≡ key (config_at v j) → ⊥
   unfolding configs_in
-  distinct-at zero e i j h l q = omega arith
-  distinct-at (suc n) e i j h l q =
+  distinct_at zero e i j h l q = omega arith
+  distinct_at (suc n) e i j h l q =
       let d : (distinct (configs_in v n) && not (any (same_keys (config_at v n)) (configs_in v n))) ≡ true =
       sym (distinct_more (configs_in v n) (config_at v n)) ∙ e in
       two j n
       (λ a.
       let none = not_true _ (and_right (distinct (configs_in v n)) _ d) in
-      never_both (same-of-key (config_at v n) (config_at v i) (sym (rw a at q))) (any_none (same_keys (config_at v n)) v n none i (omega arith)))
-      (λ a. distinct-at n (and_left (distinct (configs_in v n)) _ d) i j h (omega arith) q)
+      never_both (same_of_key (config_at v n) (config_at v i) (sym (rw a at q))) (any_none (same_keys (config_at v n)) v n none i (omega arith)))
+      (λ a. distinct_at n (and_left (distinct (configs_in v n)) _ d) i j h (omega arith) q)
 
-  pub at-distinct : (n : ℕ) → ((i j : ℕ) → i < j → j < n → key (config_at v i) ≡ key (config_at v j) → ⊥) → distinct (configs_in v n) ≡ true
+  pub at_distinct : (n : ℕ) → ((i j : ℕ) → i < j → j < n → key (config_at v i) ≡ key (config_at v j) → ⊥) → distinct (configs_in v n) ≡ true
   unfolding configs_in distinct
-  at-distinct zero f = refl
-  at-distinct (suc n) f =
+  at_distinct zero f = refl
+  at_distinct (suc n) f =
       distinct_more (configs_in v n) (config_at v n)
-      ∙ both_true _ _ (at-distinct n (λ i j h l. f i j h (omega arith)))
+      ∙ both_true _ _ (at_distinct n (λ i j h l. f i j h (omega arith)))
       (ap not (none_any (same_keys (config_at v n)) v n
-      (λ i l. is_false _ (λ e. f i n l (omega arith) (sym (key-of-same (config_at v n) (config_at v i) e))))))
+      (λ i l. is_false _ (λ e. f i n l (omega arith) (sym (key_of_same (config_at v n) (config_at v i) e))))))

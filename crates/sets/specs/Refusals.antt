@@ -14,13 +14,13 @@ use Rattle.cases.specs.Bools.{never_both, both_true, and_left, and_right}
 use Rattle.sets.specs.Lists.{any}
 use Rattle.sets.specs.Layout.{most_configs, set_words_length, config_at, config_count}
 use Rattle.sets.specs.Sets.{key, same_keys}
-use Rattle.sets.specs.Sets.Laws.{same-of-key, other_key}
+use Rattle.sets.specs.Sets.Laws.{same_of_key, other_key}
 use Rattle.sets.specs.Words.{set_of, SoundSet}
 use Rattle.sets.specs.Listed.{configs_length, any_none, none_any}
-use Rattle.sets.specs.Sound.{sound-set-true, true-sound-set}
+use Rattle.sets.specs.Sound.{sound_set_true, true_sound_set}
 use Rattle.arena.specs.Store.{at}
 use Rattle.store.specs.Checks.{Check, unless, order, due}
-use Rattle.store.specs.Checks.Laws.{in_order, Clear, due-leaves, refused-due}
+use Rattle.store.specs.Checks.Laws.{in_order, Clear, due_leaves, refused_due}
 use Rattle.sets.specs.Calls.{refused, done, added, SetLeft, refusal, lent_lengths, lent_checks, add_checks, fresh_set_call, add_call, close_call}
 
 -- ---- what a refusal leaves
@@ -29,18 +29,18 @@ same_number : (n m : ℕ) → refused n ≡ refused m → n ≡ m
 same_number n m e = cc
 
 module _ (w v z : List ℕ) where
-  pub refusal-reply : (n : ℕ) → (refusal w v z n).reply ≡ refused n
+  pub refusal_reply : (n : ℕ) → (refusal w v z n).reply ≡ refused n
   unfolding refusal
-  refusal-reply n = two n 2 (λ e. rw (eq-eqb n 2 e, refusal)) (λ d. rw (ne_eqb n 2 d, refusal))
+  refusal_reply n = two n 2 (λ e. rw (eq-eqb n 2 e, refusal)) (λ d. rw (ne_eqb n 2 d, refusal))
 
   -- "Store, set and outputs stay as on entry"
-  pub refusal-keeps : (n : ℕ) → ((refusal w v z n).store ≡ w) × ((refusal w v z n).set ≡ v)
+  pub refusal_keeps : (n : ℕ) → ((refusal w v z n).store ≡ w) × ((refusal w v z n).set ≡ v)
   unfolding refusal
-  refusal-keeps n = two n 2 (λ e. rw (eq-eqb n 2 e, refusal) (refl, refl)) (λ d. rw (ne_eqb n 2 d, refusal) (refl, refl))
+  refusal_keeps n = two n 2 (λ e. rw (eq-eqb n 2 e, refusal) (refl, refl)) (λ d. rw (ne_eqb n 2 d, refusal) (refl, refl))
 
-  pub refusal-made : (n : ℕ) → (refusal w v z n).made ≡ 0
+  pub refusal_made : (n : ℕ) → (refusal w v z n).made ≡ 0
   unfolding refusal
-  refusal-made n = two n 2 (λ e. rw (eq-eqb n 2 e, refusal)) (λ d. rw (ne_eqb n 2 d, refusal))
+  refusal_made n = two n 2 (λ e. rw (eq-eqb n 2 e, refusal)) (λ d. rw (ne_eqb n 2 d, refusal))
 
   -- "scratch is 0 (untouched on 2)"
   pub refusal_scratch : (n : ℕ) → (n ≡ 2 → (refusal w v z n).scratch ≡ z) × ((n ≡ 2 → ⊥) → (refusal w v z n).scratch ≡ zeros)
@@ -51,53 +51,53 @@ module _ (w v z : List ℕ) where
 
   module _ (cs : List Check) (go : SetLeft) (answers : (n : ℕ) → go.reply ≡ refused n → ⊥) (n : ℕ) where
     -- "Given exactly when" it is due: its reason holds and none earlier
-    pub refused-exactly : ((unless cs (refusal w v z) go).reply ≡ refused n) ↔ (due cs ≡ at n)
-    refused-exactly = (
-      refused-due (refusal w v z) go (λ m x. x.reply ≡ refused m) (λ m k e. same_number k m (sym (refusal-reply k) ∙ e)) answers n cs,
-      λ d. ap (λ (x : SetLeft). x.reply) (due-leaves (refusal w v z) go n cs d) ∙ refusal-reply n,
+    pub refused_exactly : ((unless cs (refusal w v z) go).reply ≡ refused n) ↔ (due cs ≡ at n)
+    refused_exactly = (
+      refused_due (refusal w v z) go (λ m x. x.reply ≡ refused m) (λ m k e. same_number k m (sym (refusal_reply k) ∙ e)) answers n cs,
+      λ d. ap (λ (x : SetLeft). x.reply) (due_leaves (refusal w v z) go n cs d) ∙ refusal_reply n,
     )
 
     -- and then this is what the call leaves
-    pub refused-leaves : (unless cs (refusal w v z) go).reply ≡ refused n → unless cs (refusal w v z) go ≡ refusal w v z n
-    refused-leaves e = due-leaves (refusal w v z) go n cs (refused-exactly.0 e)
+    pub refused_leaves : (unless cs (refusal w v z) go).reply ≡ refused n → unless cs (refusal w v z) go ≡ refusal w v z n
+    refused_leaves e = due_leaves (refusal w v z) go n cs (refused_exactly.0 e)
 
 -- ---- the first checks, in document 01's words
 
 module _ (w v z : List ℕ) where
   pub record SoundLent : Type 0 where
     pub store_length : length w ≡ store_words
-    pub set-length : length v ≡ set_words_length
-    pub scratch-length : length z ≡ scratch_words
+    pub set_length : length v ≡ set_words_length
+    pub scratch_length : length z ≡ scratch_words
     pub store_sound : SoundWords w
-    pub set-sound : SoundSet (contexts w) v
+    pub set_sound : SoundSet (contexts w) v
 
-  lengths-right : lent_lengths w v z ≡ true → (length w ≡ store_words) × (length v ≡ set_words_length) × (length z ≡ scratch_words)
+  lengths_right : lent_lengths w v z ≡ true → (length w ≡ store_words) × (length v ≡ set_words_length) × (length z ≡ scratch_words)
   unfolding lent_lengths
-  lengths-right l =
+  lengths_right l =
       let r = and_right (eqb (length w) store_words) _ l in
       (eqb-true _ store_words (and_left _ _ l), eqb-true _ set_words_length (and_left _ _ r), eqb-true _ scratch_words (and_right (eqb (length v) set_words_length) _ r))
 
-  right-lengths : (length w ≡ store_words) × (length v ≡ set_words_length) × (length z ≡ scratch_words) → lent_lengths w v z ≡ true
+  right_lengths : (length w ≡ store_words) × (length v ≡ set_words_length) × (length z ≡ scratch_words) → lent_lengths w v z ≡ true
   unfolding lent_lengths
-  right-lengths l = both_true _ _ (eq-eqb (length w) store_words l.0) (both_true _ _ (eq-eqb (length v) set_words_length l.1) (eq-eqb (length z) scratch_words l.2))
+  right_lengths l = both_true _ _ (eq-eqb (length w) store_words l.0) (both_true _ _ (eq-eqb (length v) set_words_length l.1) (eq-eqb (length z) scratch_words l.2))
 
-  pub clear-lent : Clear (lent_checks (lent_lengths w v z) w v []) → SoundLent
+  pub clear_lent : Clear (lent_checks (lent_lengths w v z) w v []) → SoundLent
   unfolding lent_checks
-  clear-lent c =
-      let l = lengths-right (not_false _ c.0) in
+  clear_lent c =
+      let l = lengths_right (not_false _ c.0) in
       record {
         store_length = l.0;
-        set-length = l.1;
-        scratch-length = l.2;
+        set_length = l.1;
+        scratch_length = l.2;
         store_sound = sound_true w l.0 (not_false _ c.1.0);
-        set-sound = sound-set-true (contexts w) v (not_false _ c.1.1.0);
+        set_sound = sound_set_true (contexts w) v (not_false _ c.1.1.0);
       }
 
-  pub lent-clear : SoundLent → Clear (lent_checks (lent_lengths w v z) w v [])
+  pub lent_clear : SoundLent → Clear (lent_checks (lent_lengths w v z) w v [])
   unfolding lent_checks
-  lent-clear l = (
-    ap not (right-lengths (l.store_length, l.set-length, l.scratch-length)),
-    (ap not (true_sound w l.store_length l.store-sound), (ap not (true-sound-set (contexts w) v l.set-length l.set-sound), tt)),
+  lent_clear l = (
+    ap not (right_lengths (l.store_length, l.set-length, l.scratch-length)),
+    (ap not (true_sound w l.store_length l.store-sound), (ap not (true_sound_set (contexts w) v l.set-length l.set-sound), tt)),
   )
 
 -- ---- for each call: "Given exactly when", in document 01's order, and what is left then
@@ -113,50 +113,50 @@ module _ (k : ℕ) (v : List ℕ) (x : Config) (s : SoundSet k v) where
   abbrev Full : Type 0
   Full = ((i : ℕ) → i < config_count v → key (config_at v i) ≡ key x → ⊥) × (config_count v ≡ most_configs)
 
-  full-new : (not (any (same_keys x) (set_of v).configs) && leb most_configs (length (set_of v).configs)) ≡ true → Full
-  full-new t =
+  full_new : (not (any (same_keys x) (set_of v).configs) && leb most_configs (length (set_of v).configs)) ≡ true → Full
+  full_new t =
       let none = not_true _ (and_left _ (leb most_configs (length (set_of v).configs)) t) in
       let most = leb-true most_configs (length (set_of v).configs) (and_right (not (any (same_keys x) (set_of v).configs)) _ t) in (
-        λ i h q. never_both (same-of-key x (config_at v i) (sym q)) (any_none (same_keys x) v (config_count v) none i h),
+        λ i h q. never_both (same_of_key x (config_at v i) (sym q)) (any_none (same_keys x) v (config_count v) none i h),
         omega (arith, configs_length v (config_count v), s.counted),
       )
 
-  new-full : Full → (not (any (same_keys x) (set_of v).configs) && leb most_configs (length (set_of v).configs)) ≡ true
-  new-full f =
+  new_full : Full → (not (any (same_keys x) (set_of v).configs) && leb most_configs (length (set_of v).configs)) ≡ true
+  new_full f =
       both_true _ _ (ap not (none_any (same_keys x) v (config_count v) (λ i h. other_key x (config_at v i) (λ q. f.0 i h (sym q)))))
       (le-leb most_configs (length (set_of v).configs) (omega (arith, configs_length v (config_count v), f.1)))
 
-  pub full-exactly : ((not (any (same_keys x) (set_of v).configs) && leb most_configs (length (set_of v).configs)) ≡ true)
+  pub full_exactly : ((not (any (same_keys x) (set_of v).configs) && leb most_configs (length (set_of v).configs)) ≡ true)
       ↔ (((i : ℕ) → i < config_count v → key (config_at v i) ≡ key x → ⊥) × (config_count v ≡ most_configs))
-  full-exactly = (full-new, new-full)
+  full_exactly = (full_new, new_full)
 
 module _ (w v z : List ℕ) (x : Config) where
   -- 2, 1, 3, 7, 4, 8, 12, 6
-  pub add-refused-exactly : (n : ℕ) → ((add_call w v z x).reply ≡ refused n) ↔ (due (add_checks w v z x) ≡ at n)
+  pub add_refused_exactly : (n : ℕ) → ((add_call w v z x).reply ≡ refused n) ↔ (due (add_checks w v z x) ≡ at n)
   unfolding add_call
-  add-refused-exactly = refused-exactly w v z (add_checks w v z x) _ (λ m. not_added _ m)
+  add_refused_exactly = refused_exactly w v z (add_checks w v z x) _ (λ m. not_added _ m)
 
-  pub add-refused-leaves : (n : ℕ) → (add_call w v z x).reply ≡ refused n → add_call w v z x ≡ refusal w v z n
+  pub add_refused_leaves : (n : ℕ) → (add_call w v z x).reply ≡ refused n → add_call w v z x ≡ refusal w v z n
   unfolding add_call
-  add-refused-leaves = refused-leaves w v z (add_checks w v z x) _ (λ n. not_added _ n)
+  add_refused_leaves = refused_leaves w v z (add_checks w v z x) _ (λ n. not_added _ n)
 
-  pub add-in-order : in_order order (add_checks w v z x) ≡ true
+  pub add_in_order : in_order order (add_checks w v z x) ≡ true
   unfolding add_checks lent_checks in_order
-  add-in-order = refl
+  add_in_order = refl
 
 module _ (w v z : List ℕ) where
   -- 2, 1, 3
-  pub close-refused-exactly : (n : ℕ) → ((close_call w v z).reply ≡ refused n) ↔ (due (lent_checks (lent_lengths w v z) w v []) ≡ at n)
+  pub close_refused_exactly : (n : ℕ) → ((close_call w v z).reply ≡ refused n) ↔ (due (lent_checks (lent_lengths w v z) w v []) ≡ at n)
   unfolding close_call
-  close-refused-exactly = refused-exactly w v z (lent_checks (lent_lengths w v z) w v []) _ not_done
+  close_refused_exactly = refused_exactly w v z (lent_checks (lent_lengths w v z) w v []) _ not_done
 
-  pub close-refused-leaves : (n : ℕ) → (close_call w v z).reply ≡ refused n → close_call w v z ≡ refusal w v z n
+  pub close_refused_leaves : (n : ℕ) → (close_call w v z).reply ≡ refused n → close_call w v z ≡ refusal w v z n
   unfolding close_call
-  close-refused-leaves = refused-leaves w v z (lent_checks (lent_lengths w v z) w v []) _ not_done
+  close_refused_leaves = refused_leaves w v z (lent_checks (lent_lengths w v z) w v []) _ not_done
 
-  pub close-in-order : in_order order (lent_checks (lent_lengths w v z) w v []) ≡ true
+  pub close_in_order : in_order order (lent_checks (lent_lengths w v z) w v []) ≡ true
   unfolding lent_checks in_order
-  close-in-order = refl
+  close_in_order = refl
 
 -- 2
 pub fresh_refused_exactly : (v : List ℕ) (f : Bool) (n : ℕ) → ((fresh_set_call v f).0 ≡ refused n) ↔ ((n ≡ 2) × (length v ≡ set_words_length → ⊥))

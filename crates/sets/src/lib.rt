@@ -1,1 +1,2 @@
 // What a config set is, and its words: definitions and theorems alone.
+#![tactic(auto)]

@@ -20,6 +20,7 @@ stacks_of (over r b t) = topped r (stacks_of b) ++ stacks_of t
 
 in_topped : (r : ℕ) (σ : List ℕ) (l : List (List ℕ)) → Memᴰ σ l → Memᴰ (r ∷ σ) (topped r l)
 unfolding topped
+in_topped r σ [] m = elim m [ ]
 in_topped r σ (τ ∷ l) (Memᴰ.head e) = Memᴰ.head (ap (λ (x : List ℕ). r ∷ x) e)
 in_topped r σ (τ ∷ l) (Memᴰ.tail m) = Memᴰ.tail (in_topped r σ l m)
 

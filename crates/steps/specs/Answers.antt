@@ -12,9 +12,9 @@ abbrev pub after_of : Ran → After
 after_of (Next n j) = goes j
 after_of (Over n) = over
 
-abbrev pub wroteOf : Ran → ℕ
-wroteOf (Next n j) = n
-wroteOf (Over n) = n
+abbrev pub wrote_of : Ran → ℕ
+wrote_of (Next n j) = n
+wrote_of (Over n) = n
 
 -- what a step leaves: where it goes on, the number of bytes of the reply, and each byte and word lent to it
 pub record Behind : Type 0 where
@@ -24,11 +24,11 @@ pub record Behind : Type 0 where
   pub words : Lent
 
 abbrev pub behind : Ran → List ℕ → Lent → Behind
-behind r b l = record { after = after_of r; wrote = wroteOf r; buffer = b; words = l }
+behind r b l = record { after = after_of r; wrote = wrote_of r; buffer = b; words = l }
 
 -- the same of the definition, over the buffer b
-abbrev pub laidOut : List ℕ → Stepped → Behind
-laidOut b t = record {
+abbrev pub laid_out : List ℕ → Stepped → Behind
+laid_out b t = record {
   after = t.after;
   wrote = length t.printed.reply;
   buffer = laid b 0 t.printed.reply;

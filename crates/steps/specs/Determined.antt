@@ -6,7 +6,7 @@ use Rattle.steps.specs.declared.run.Ran.{Ran}
 use Rattle.steps.specs.declared.run.Ran.TheVariants.{Next, Over}
 use Rattle.replies.specs.Replies.{Lent}
 use Rattle.steps.specs.Steps.{fresh, goes, over, step_of}
-use Rattle.steps.specs.Answers.{Behind, behind, laidOut}
+use Rattle.steps.specs.Answers.{Behind, behind, laid_out}
 
 -- the answer, back from what it stands for
 unfoldable ran_of : Behind → Ran
@@ -21,7 +21,7 @@ pub start_determined : (l m : Lent) → l ≡ fresh → m ≡ fresh → l ≡ m
 start_determined l m p q = p ∙ sym q
 
 pub step_determined : (s : List ℕ) (i : ℕ) (l : Lent) (o : List ℕ) (a b : Ran) (u v : List ℕ) (m k : Lent)
-    → behind a u m ≡ laidOut o (step_of s i l) → behind b v k ≡ laidOut o (step_of s i l) → (a ≡ b) × (u ≡ v) × (m ≡ k)
+    → behind a u m ≡ laid_out o (step_of s i l) → behind b v k ≡ laid_out o (step_of s i l) → (a ≡ b) × (u ≡ v) × (m ≡ k)
 step_determined s i l o a b u v m k p q =
     let e : behind a u m ≡ behind b v k = p ∙ sym q in (
       sym (ran_back a u m) ∙ ap ran_of e ∙ ran_back b v k,

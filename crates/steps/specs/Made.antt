@@ -19,12 +19,12 @@ use Rattle.sets.specs.Calls.{done as setDone}
 use Rattle.lines.specs.Laid.{laid}
 use Rattle.lines.specs.Laid.Laws.{length_laid, take_laid}
 use Rattle.lines.specs.Lines.{end_line}
-use Rattle.store.specs.FreshWords.{fresh-goes}
+use Rattle.store.specs.FreshWords.{fresh_goes}
 use Rattle.steps.specs.declared.run.Ran.{Ran}
-use Rattle.steps.specs.Answers.{after_of, wroteOf, Behind, behind, laidOut}
+use Rattle.steps.specs.Answers.{after_of, wrote_of, Behind, behind, laid_out}
 use Rattle.replies.specs.Replies.{Lent, lent, Printed}
 use Rattle.steps.specs.Steps.{fresh, goes, over, step_of, onto, run_from, run_of, script_replies}
-use Rattle.steps.specs.Steps.Laws.{after?, step-forward, run-over, run-next, run_enough}
+use Rattle.steps.specs.Steps.Laws.{after?, step_forward, run_over, run_next, run_enough}
 
 -- ---- the start
 
@@ -34,7 +34,7 @@ pub fresh_is : (w u : List ℕ) (r : Reply) → (r, u) ≡ fresh_call w → leng
     → (t : List ℕ) → t ≡ replicate 65 0 → (y z : List ℕ) → z ≡ replicate (length y) 0 → length y ≡ scratch_words → lent u s t z ≡ fresh
 unfolding fresh fresh_set_call unless blank
 fresh_is w u r e lw v s a f lv t g y z q ly =
-    let store : u ≡ words_of (dollar ∷ []) = ap (λ (x : Reply × List ℕ). x.1) (e ∙ fresh-goes w lw) in
+    let store : u ≡ words_of (dollar ∷ []) = ap (λ (x : Reply × List ℕ). x.1) (e ∙ fresh_goes w lw) in
     let fresh : fresh_set_call v true ≡ (setDone, set_words (empty_set true)) = rw (eq-eqb (length v) set_words_length lv, unless) in
     let set : s ≡ set_words (empty_set true) = ap (λ (x : SetReply × List ℕ). x.1) (f ∙ fresh) in
     rw (store, set, g, q ∙ cleared y ly)
@@ -44,15 +44,15 @@ fresh_is w u r e lw v s a f lv t g y z q ly =
 -- the step at place i, with the words l, answered r, left the buffer u, and left the words m
 pub record Step (s : List ℕ) (i : ℕ) (l : Lent) (r : Ran) (u : List ℕ) (m : Lent) : Type 0 where
   pub after : (step_of s i l).after ≡ after_of r
-  pub wrote : wroteOf r ≡ length (step_of s i l).printed.reply
-  pub reply : take (wroteOf r) u ≡ (step_of s i l).printed.reply
+  pub wrote : wrote_of r ≡ length (step_of s i l).printed.reply
+  pub reply : take (wrote_of r) u ≡ (step_of s i l).printed.reply
   pub words : (step_of s i l).printed.words ≡ m
 
-pub step_is : (s : List ℕ) (i : ℕ) (l : Lent) (b : List ℕ) (r : Ran) (u : List ℕ) (m : Lent) → behind r u m ≡ laidOut b (step_of s i l)
-    → wroteOf r ≤ length u → Step s i l r u m
+pub step_is : (s : List ℕ) (i : ℕ) (l : Lent) (b : List ℕ) (r : Ran) (u : List ℕ) (m : Lent) → behind r u m ≡ laid_out b (step_of s i l)
+    → wrote_of r ≤ length u → Step s i l r u m
 step_is s i l b r u m e room =
     let x = (step_of s i l).printed.reply in
-    let n : wroteOf r ≡ length x = ap (λ (y : Behind). y.wrote) e in
+    let n : wrote_of r ≡ length x = ap (λ (y : Behind). y.wrote) e in
     let o : u ≡ laid b 0 x = ap (λ (y : Behind). y.buffer) e in
     record {
       after = sym (ap (λ (y : Behind). y.after) e);
@@ -79,47 +79,47 @@ made_start s = record {
 
 module _ (s : List ℕ) (n : ℕ) (r : List ℕ) (i : ℕ) (l : Lent) (v : Made s n r i l) where
   -- one step more
-  pub made-next : (j : ℕ) → (step_of s i l).after ≡ goes j → Made s (n + 1) (r ++ (step_of s i l).printed.reply) j (step_of s i l).printed.words
-  made-next j q = record {
-    inside = (step-forward s i l j q).1;
+  pub made_next : (j : ℕ) → (step_of s i l).after ≡ goes j → Made s (n + 1) (r ++ (step_of s i l).printed.reply) j (step_of s i l).printed.words
+  made_next j q = record {
+    inside = (step_forward s i l j q).1;
     rest = λ m.
         let t = (step_of s i l).printed in
         let e : n + 1 + m ≡ n + suc m = omega arith in
         let p = run_from m s j t.words in
         ap (λ (k : ℕ). run_from k s 0 fresh) e
         ∙ v.rest (suc m)
-        ∙ ap (onto r) (run-next s i l m j q)
+        ∙ ap (onto r) (run_next s i l m j q)
         ∙ ap (λ (x : List ℕ). record { reply = x; words = p.words }) (sym (append_assoc r t.reply p.reply));
   }
 
   -- the words that n steps lead to
-  pub made-words : l ≡ (run_from n s 0 fresh).words
+  pub made_words : l ≡ (run_from n s 0 fresh).words
   unfolding run_from
-  made-words =
+  made_words =
       let e : n + 0 ≡ n = omega arith in
       sym (ap (λ (p : Printed). p.words) (v.rest 0)) ∙ ap (λ (k : ℕ). (run_from k s 0 fresh).words) e
 
   -- the whole run begins with them
-  made-whole : run_of s ≡ onto r (run_from (suc (length s)) s i l)
+  made_whole : run_of s ≡ onto r (run_from (suc (length s)) s i l)
   unfolding run_of
-  made-whole =
+  made_whole =
       run_enough (suc (length s)) (n + suc (length s)) s 0 fresh (omega arith) (omega arith) ∙ v.rest (suc (length s))
 
   -- the last step
-  pub made-over : (step_of s i l).after ≡ over → run_of s ≡ onto r (step_of s i l).printed
-  made-over q = made-whole ∙ ap (onto r) (run-over s i l (length s) q)
+  pub made_over_lem : (step_of s i l).after ≡ over → run_of s ≡ onto r (step_of s i l).printed
+  made_over_lem q = made_whole ∙ ap (onto r) (run_over s i l (length s) q)
 
   -- the script prints r, the reply of the next step, and more
-  pub made-reply : (rest : List ℕ) × (script_replies s ≡ (r ++ (step_of s i l).printed.reply) ++ rest)
+  pub made_reply : (rest : List ℕ) × (script_replies s ≡ (r ++ (step_of s i l).printed.reply) ++ rest)
   unfolding script_replies
-  made-reply =
+  made_reply =
       let t = (step_of s i l).printed in
       let end = end_line (run_of s).words.store in
       after? (step_of s i l).after
       (λ j q.
       let p = (run_from (length s) s j t.words).reply in
-      (p ++ end, ap (λ (x : Printed). x.reply ++ end) (made-whole ∙ ap (onto r) (run-next s i l (length s) j q)) ∙ regroup t.reply p end))
-      (λ q. (end, ap (λ (x : Printed). x.reply ++ end) (made-over q)))
+      (p ++ end, ap (λ (x : Printed). x.reply ++ end) (made_whole ∙ ap (onto r) (run_next s i l (length s) j q)) ∙ regroup t.reply p end))
+      (λ q. (end, ap (λ (x : Printed). x.reply ++ end) (made_over_lem q)))
     where
       regroup : (x p e : List ℕ) → (r ++ (x ++ p)) ++ e ≡ (r ++ x) ++ (p ++ e)
       regroup x p e = simp append_assoc

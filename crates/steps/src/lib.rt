@@ -1,4 +1,6 @@
 // Steps of a script: a record is run over lent words and answered by a line of bytes.
+#![tactic(auto)]
+
 mod begin;
 mod run;
 

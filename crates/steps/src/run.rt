@@ -3,7 +3,7 @@ ghost use Rattle.std.specs.Prelude.{◌≡◌, ◌≤◌, length};
 ghost use Rattle.lines.specs.Laid.{Wrote};
 ghost use Rattle.lines.specs.Lines.{refusal_line};
 ghost use Rattle.replies.specs.Replies.{lent, wiped};
-ghost use Rattle.steps.specs.Answers.{behind, laidOut, wroteOf};
+ghost use Rattle.steps.specs.Answers.{behind, laid_out, wrote_of};
 ghost use Rattle.steps.specs.Steps.{step_of};
 
 use calls::inner::run::run_record;
@@ -44,9 +44,9 @@ pub fn run_step(
     out: &mut [u8; LINE_BYTES],
 ) -> Ran
     ensures scratch_after { behind result out.new (lent store.new set.new stops.new scratch.new)
-        ≡ laidOut out.old
+        ≡ laid_out out.old
         (step_of bytes.now at (lent store.old set.old stops.old scratch.old)) }
-    ensures result_in_bounds { wroteOf result ≤ length out.new }
+    ensures result_in_bounds { wrote_of result ≤ length out.new }
 {
     if MOST_BYTES < bytes.len() {
         return Ran::Over(refuse(scratch, out));

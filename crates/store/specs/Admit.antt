@@ -28,27 +28,27 @@ Admits w z c (Refused f) u = (go : Left) → checked w z (if_known w c go) ≡ l
 -- ---- the checks, decided
 
 module _ (w z : List ℕ) (go : Left) where
-  pub short-store : (length w ≡ store_words → ⊥) → checked w z go ≡ leaves (refused 2) w z
+  pub short_store : (length w ≡ store_words → ⊥) → checked w z go ≡ leaves (refused 2) w z
   unfolding checked if_lengths
-  short-store n = rw (ne_eqb (length w) store_words n, if_lengths)
+  short_store n = rw (ne_eqb (length w) store_words n, if_lengths)
 
-  pub short-scratch : (length z ≡ scratch_words → ⊥) → checked w z go ≡ leaves (refused 2) w z
+  pub short_scratch : (length z ≡ scratch_words → ⊥) → checked w z go ≡ leaves (refused 2) w z
   unfolding checked if_lengths
-  short-scratch n = rw (ne_eqb (length z) scratch_words n, and-false (eqb (length w) store_words), if_lengths)
+  short_scratch n = rw (ne_eqb (length z) scratch_words n, and-false (eqb (length w) store_words), if_lengths)
 
   module _ (lw : length w ≡ store_words) (lz : length z ≡ scratch_words) where
     pub unsound : (SoundWords w → ⊥) → checked w z go ≡ kept (refused 1) w
     unfolding checked if_lengths if_sound
     unsound n = rw (eq-eqb (length w) store_words lw, eq-eqb (length z) scratch_words lz, if_lengths, sound_false w lw n, if_sound)
 
-    pub sound-goes : SoundWords w → checked w z go ≡ go
+    pub sound_goes : SoundWords w → checked w z go ≡ go
     unfolding checked if_lengths if_sound
-    sound-goes v = rw (eq-eqb (length w) store_words lw, eq-eqb (length z) scratch_words lz, if_lengths, true_sound w lw v, if_sound)
+    sound_goes v = rw (eq-eqb (length w) store_words lw, eq-eqb (length z) scratch_words lz, if_lengths, true_sound w lw v, if_sound)
 
 module _ (w : List ℕ) (c : ℕ) (go : Left) where
-  pub known-goes : c < count w → if_known w c go ≡ go
+  pub known_goes : c < count w → if_known w c go ≡ go
   unfolding if_known
-  known-goes h = rw (lt-ltb c (count w) h, if_known)
+  known_goes h = rw (lt-ltb c (count w) h, if_known)
 
   pub unknown : count w ≤ c → if_known w c go ≡ kept (refused 4) w
   unfolding if_known
@@ -65,11 +65,11 @@ pub refused_first : (w z u : List ℕ) (c : ℕ) (r : Admitted) (f : Refusal) �
 refused_first w z u c r f e o = λ go. (rw e at o) (if_known w c go)
 
 module _ (w z u : List ℕ) (c : ℕ) (r : Admitted) (e : r ≡ ready) (o : Opened w z r u) where
-  pub opened-ready : Ready w u
-  opened-ready = (rw e at o).0
+  pub opened_ready : Ready w u
+  opened_ready = (rw e at o).0
 
-  pub admits-known : c < count w → Admits w z c ready u
-  admits-known h = (opened-ready, h, λ go. (rw e at o).1 (if_known w c go) ∙ known-goes w c go h)
+  pub admits_known : c < count w → Admits w z c ready u
+  admits_known h = (opened_ready, h, λ go. (rw e at o).1 (if_known w c go) ∙ known_goes w c go h)
 
-  pub admits-unknown : count w ≤ c → (y : List ℕ) → y ≡ zeros → Admits w z c (Refused UnknownContext) y
-  admits-unknown h y q = λ go. (rw e at o).1 (if_known w c go) ∙ unknown w c go h ∙ ap (λ (x : List ℕ). leaves (refused 4) w x) (sym q)
+  pub admits_unknown : count w ≤ c → (y : List ℕ) → y ≡ zeros → Admits w z c (Refused UnknownContext) y
+  admits_unknown h y q = λ go. (rw e at o).1 (if_known w c go) ∙ unknown w c go h ∙ ap (λ (x : List ℕ). leaves (refused 4) w x) (sym q)

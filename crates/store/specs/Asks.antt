@@ -9,7 +9,7 @@ use Rattle.layout.specs.Layout.{store_words, count}
 use Rattle.layout.specs.Sound.{SoundWords}
 use Rattle.store.specs.Nested.{asked_nested}
 use Rattle.store.specs.Checks.{due}
-use Rattle.store.specs.Calls.Laws.{refused-exactly, refused-leaves}
+use Rattle.store.specs.Calls.Laws.{refused_exactly, refused_leaves}
 use Rattle.store.specs.Calls.{Reply, refused, leaves, zeros, kept, refusal, ask_checks, asked}
 use Rattle.store.specs.Admit.{Admits, cleared}
 use Rattle.store.specs.declared.inner.admit.Admitted.{Admitted}
@@ -33,8 +33,8 @@ not_both : (a : Admitted) (f : Refusal) → a ≡ Refused f → a ≡ ready → 
 not_both a f e g = let z : ◌≡◌ {A = ℕ} 0 1 = cc in omega arith
 
 module _ (w z : List ℕ) (c : ℕ) (u : List ℕ) (a : Admitted) (s : Admits w z c a u) where
-  pub asks-known : a ≡ ready → (v : List ℕ) → v ≡ replicate (length u) 0 → Asks w z c ready v
-  asks-known e v f =
+  pub asks_known : a ≡ ready → (v : List ℕ) → v ≡ replicate (length u) 0 → Asks w z c ready v
+  asks_known e v f =
       let passed : Admits w z c ready u = rw e at s in
       let zero : v ≡ zeros = f ∙ cleared u passed.0.index.sized in
       record {
@@ -43,8 +43,8 @@ module _ (w z : List ℕ) (c : ℕ) (u : List ℕ) (a : Admitted) (s : Admits w 
         refuses = λ f e r. cc;
       }
 
-  pub asks-refused : (f : Refusal) → a ≡ Refused f → Asks w z c a u
-  asks-refused f e =
+  pub asks_refused : (f : Refusal) → a ≡ Refused f → Asks w z c a u
+  asks_refused f e =
       record {
         known = λ g. absurd (not_both a f e g);
         replies = λ g. absurd (not_both a f e g);
@@ -54,10 +54,10 @@ module _ (w z : List ℕ) (c : ℕ) (u : List ℕ) (a : Admitted) (s : Admits w 
 -- ---- refused exactly when, and with nothing changed
 
 module _ (w z : List ℕ) (c : ℕ) (r : Reply) (answers : (n : ℕ) → r ≡ refused n → ⊥) (n : ℕ) where
-  pub asked-refused-exactly : ((asked w z c r).reply ≡ refused n) ↔ (due (ask_checks w z c) ≡ at n)
+  pub asked_refused_exactly : ((asked w z c r).reply ≡ refused n) ↔ (due (ask_checks w z c) ≡ at n)
   unfolding asked
-  asked-refused-exactly = refused-exactly w z (ask_checks w z c) (kept r w) answers n
+  asked_refused_exactly = refused_exactly w z (ask_checks w z c) (kept r w) answers n
 
-  pub asked-refused-leaves : (asked w z c r).reply ≡ refused n → asked w z c r ≡ refusal w z n
+  pub asked_refused_leaves : (asked w z c r).reply ≡ refused n → asked w z c r ≡ refusal w z n
   unfolding asked
-  asked-refused-leaves = refused-leaves w z (ask_checks w z c) (kept r w) answers n
+  asked_refused_leaves = refused_leaves w z (ask_checks w z c) (kept r w) answers n

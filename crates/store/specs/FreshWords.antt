@@ -21,17 +21,17 @@ fresh_is =
     one_is_zero (set (blank store_words) 0 1) (get_or-set_other (blank store_words) 0 1 1 0 n ∙ get_or_blank store_words 1 (omega arith))
 
 module _ (w : List ℕ) where
-  pub fresh-goes : length w ≡ store_words → fresh_call w ≡ (done, words_of (dollar ∷ []))
+  pub fresh_goes : length w ≡ store_words → fresh_call w ≡ (done, words_of (dollar ∷ []))
   unfolding fresh_call unless
-  fresh-goes l = rw (eq-eqb (length w) store_words l, fresh_call, unless, unless)
+  fresh_goes l = rw (eq-eqb (length w) store_words l, fresh_call, unless, unless)
 
   -- count 1 and zeros
-  pub fresh-count : length w ≡ store_words → fresh_call w ≡ (done, set (blank store_words) 0 1)
-  fresh-count l = rw (← fresh_is) (fresh-goes l)
+  pub fresh_count : length w ≡ store_words → fresh_call w ≡ (done, set (blank store_words) 0 1)
+  fresh_count l = rw (← fresh_is) (fresh_goes l)
 
-  pub fresh-words : length w ≡ store_words → (done, set (replicate (length w) 0) 0 1) ≡ fresh_call w
+  pub fresh_words : length w ≡ store_words → (done, set (replicate (length w) 0) 0 1) ≡ fresh_call w
   unfolding fresh_call unless blank
-  fresh-words l = rw (eq-eqb (length w) store_words l, fresh_call, unless, unless, fresh_is, l)
+  fresh_words l = rw (eq-eqb (length w) store_words l, fresh_call, unless, unless, fresh_is, l)
 
   pub fresh_refused : (length w ≡ store_words → ⊥) → (refused 2, w) ≡ fresh_call w
   unfolding fresh_call unless

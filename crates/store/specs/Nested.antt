@@ -29,25 +29,25 @@ checked w z go = if_lengths w z (if_sound w go)
 -- ---- one check of the list
 
 module _ (w z : List ℕ) (cs : List Check) (go : Left) where
-  lengths-nested : unless (wrong_length w z ∷ cs) (refusal w z) go ≡ if_lengths w z (unless cs (refusal w z) go)
+  lengths_nested : unless (wrong_length w z ∷ cs) (refusal w z) go ≡ if_lengths w z (unless cs (refusal w z) go)
   unfolding unless refusal if_lengths
-  lengths-nested =
+  lengths_nested =
       bool? (eqb (length w) store_words && eqb (length z) scratch_words)
       (λ e. rw (e, unless, if_lengths))
       (λ e. rw (e, unless, if_lengths))
 
-  sound-nested : unless (unsound_store w ∷ cs) (refusal w z) go ≡ if_sound w (unless cs (refusal w z) go)
+  sound_nested : unless (unsound_store w ∷ cs) (refusal w z) go ≡ if_sound w (unless cs (refusal w z) go)
   unfolding unless refusal if_sound
-  sound-nested = bool? (sound w) (λ e. rw (e, unless, if_sound)) (λ e. rw (e, unless, if_sound))
+  sound_nested = bool? (sound w) (λ e. rw (e, unless, if_sound)) (λ e. rw (e, unless, if_sound))
 
   pub known_nested : (c : ℕ) → unless (unknown_context w c ∷ cs) (refusal w z) go ≡ if_known w c (unless cs (refusal w z) go)
   unfolding unless refusal if_known
   known_nested c = bool? (ltb c (contexts w)) (λ e. rw (e, unless, if_known)) (λ e. rw (e, unless, if_known))
 
-  pub both-known-nested : (a b : ℕ)
+  pub both_known_nested : (a b : ℕ)
       → unless (given 4 (not (ltb a (contexts w) && ltb b (contexts w))) ∷ cs) (refusal w z) go ≡ if_known w a (if_known w b (unless cs (refusal w z) go))
   unfolding unless refusal if_known
-  both-known-nested a b =
+  both_known_nested a b =
       bool? (ltb a (contexts w))
       (λ e. bool? (ltb b (contexts w)) (λ f. rw (e, f, unless, if_known, if_known)) (λ f. rw (e, f, unless, if_known, if_known)))
       (λ e. rw (e, unless, if_known))
@@ -55,7 +55,7 @@ module _ (w z : List ℕ) (cs : List Check) (go : Left) where
 pub checked_nested : (w z : List ℕ) (cs : List Check) (go : Left)
     → unless (wrong_length w z ∷ unsound_store w ∷ cs) (refusal w z) go ≡ checked w z (unless cs (refusal w z) go)
 unfolding checked
-checked_nested w z cs go = lengths-nested w z (unsound_store w ∷ cs) go ∙ ap (if_lengths w z) (sound-nested w z cs go)
+checked_nested w z cs go = lengths_nested w z (unsound_store w ∷ cs) go ∙ ap (if_lengths w z) (sound_nested w z cs go)
 
 pub room_nested : (w z : List ℕ) (x : ℕ × Store) → unless (no_room x.1 ∷ []) (refusal w z) (gives (store_of w) x) ≡ grown w x
 unfolding unless refusal grown

@@ -12,7 +12,7 @@ use Rattle.encoding.specs.Decide.{sound}
 use Rattle.encoding.specs.Decide.Laws.{words_sound}
 use Rattle.cases.specs.Numbers.{two, never}
 use Rattle.layout.specs.Layout.{store_words}
-use Rattle.store.specs.FreshWords.{fresh-words, fresh_refused}
+use Rattle.store.specs.FreshWords.{fresh_words, fresh_refused}
 use Rattle.store.specs.Calls.{Reply, refused, done, fresh_call}
 use Rattle.store.specs.Renewed.{renewed}
 use Rattle.store.specs.declared.renew.Renewed.{Renewed}
@@ -65,7 +65,7 @@ fresh_sound = words_sound (dollar ∷ []) fresh_good
 pub fresh_refused_exactly : (w : List ℕ) (n : ℕ) → ((fresh_call w).0 ≡ refused n) ↔ ((n ≡ 2) × (length w ≡ store_words → ⊥))
 fresh_refused_exactly w n =
     two (length w) store_words
-    (λ e. (λ q. absurd (never_both (ap (λ (x : Reply × List ℕ). x.0) (fresh-words w e) ∙ q)), λ r. absurd (r.1 e)))
+    (λ e. (λ q. absurd (never_both (ap (λ (x : Reply × List ℕ). x.0) (fresh_words w e) ∙ q)), λ r. absurd (r.1 e)))
     (λ d. let f = ap (λ (x : Reply × List ℕ). x.0) (fresh_refused w d) in (λ q. (number_is (f ∙ q), d), λ r. sym f ∙ ap refused (sym r.0)))
   where
     never_both : done ≡ refused n → ⊥

@@ -1,5 +1,7 @@
 // Runs the script on standard input over a fresh store, an empty full-context set and no stop states: a line a record, then the
 // end line.
+#![tactic(auto)]
+
 ghost use Rattle.std.specs.Prelude.{◌≤◌, length};
 ghost use Rattle.replies.specs.Replies.{lent};
 ghost use Rattle.trace.specs.Traced.{Traced};

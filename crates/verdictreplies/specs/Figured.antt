@@ -74,8 +74,8 @@ module _ (t : List ℕ) where
   held_all h =
       take_all (length t - 1) (drop 1 t) (omega (arith, length-drop 1 t)) ∙ sym (take_all (get_or t 0 0) (drop 1 t) (omega (arith, length-drop 1 t)))
 
-  pub held-some : take (1 + get_or t 0 0 - 1) (drop 1 t) ≡ take (get_or t 0 0) (drop 1 t)
-  held-some = let e : 1 + get_or t 0 0 - 1 ≡ get_or t 0 0 = omega arith in ap (λ (n : ℕ). take n (drop 1 t)) e
+  pub held_some : take (1 + get_or t 0 0 - 1) (drop 1 t) ≡ take (get_or t 0 0) (drop 1 t)
+  held_some = let e : 1 + get_or t 0 0 - 1 ≡ get_or t 0 0 = omega arith in ap (λ (n : ℕ). take n (drop 1 t)) e
 
 -- of the stop states
 pub held_stops_lem : (t s : List ℕ) → s ≡ take (get_or t 0 0) (drop 1 t) → s ≡ held_stops t
@@ -90,8 +90,8 @@ module _ (b w v y s t : List ℕ) (a : ToldOf) (r : ℕ) (u z : List ℕ) (c : v
       let g : verdict_left (told (All f)) z [] ≡ figures_call w v y t = rw (q, h) at c in
       rw (← g) (record { wrote = p; scratch = refl })
 
-  pub told-refused : (f : Refusal) → a ≡ Refused f → (n : ℕ) → n ≡ number f → Wrote b 0 (number_line 82 n) r u → Told b (figures_call w v y t) r u z
+  pub told_refused : (f : Refusal) → a ≡ Refused f → (n : ℕ) → n ≡ number f → Wrote b 0 (number_line 82 n) r u → Told b (figures_call w v y t) r u z
   unfolding verdict_line_of refusal_line
-  told-refused f q n m p =
+  told_refused f q n m p =
       let g : verdict_left (told (Refused f)) z [] ≡ figures_call w v y t = rw (q, h) at c in
       rw (← g) (record { wrote = rw m at p; scratch = refl })

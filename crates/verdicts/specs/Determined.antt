@@ -51,17 +51,17 @@ wrote_tells (notWritten f) (notWritten g) e = ap notWritten (tells f g e)
 -- ---- whatever the call's equation says: l is what it leaves. Store and set are lent to read
 
 module _ (l : VerdictLeft) (u x p q : List ℕ) where
-  pub decided-determined : (a b : Decided) → verdict_left (decided a) u p ≡ l → verdict_left (decided b) x q ≡ l → (a ≡ b) × (u ≡ x) × (p ≡ q)
-  decided-determined a b d e =
+  pub decided_determined : (a b : Decided) → verdict_left (decided a) u p ≡ l → verdict_left (decided b) x q ≡ l → (a ≡ b) × (u ≡ x) × (p ≡ q)
+  decided_determined a b d e =
       let f = d ∙ sym e in
       (decided_tells a b (ap (λ (m : VerdictLeft). m.reply) f), ap (λ (m : VerdictLeft). m.scratch) f, ap (λ (m : VerdictLeft). m.output) f)
 
-  pub found-determined : (a b : AltFound) → verdict_left (alt_found a) u p ≡ l → verdict_left (alt_found b) x q ≡ l → (a ≡ b) × (u ≡ x) × (p ≡ q)
-  found-determined a b d e =
+  pub found_determined : (a b : AltFound) → verdict_left (alt_found a) u p ≡ l → verdict_left (alt_found b) x q ≡ l → (a ≡ b) × (u ≡ x) × (p ≡ q)
+  found_determined a b d e =
       let f = d ∙ sym e in
       (found_tells a b (ap (λ (m : VerdictLeft). m.reply) f), ap (λ (m : VerdictLeft). m.scratch) f, ap (λ (m : VerdictLeft). m.output) f)
 
-  pub written-determined : (a b : Written) → verdict_left (wrote a) u p ≡ l → verdict_left (wrote b) x q ≡ l → (a ≡ b) × (u ≡ x) × (p ≡ q)
-  written-determined a b d e =
+  pub written_determined : (a b : Written) → verdict_left (wrote a) u p ≡ l → verdict_left (wrote b) x q ≡ l → (a ≡ b) × (u ≡ x) × (p ≡ q)
+  written_determined a b d e =
       let f = d ∙ sym e in
       (wrote_tells a b (ap (λ (m : VerdictLeft). m.reply) f), ap (λ (m : VerdictLeft). m.scratch) f, ap (λ (m : VerdictLeft). m.output) f)

@@ -6,7 +6,7 @@ use Rattle.cases.specs.Numbers.{two}
 use Rattle.arena.specs.Store.{at}
 use Rattle.store.specs.Calls.{zeros}
 use Rattle.store.specs.Checks.{Check, order, due}
-use Rattle.store.specs.Checks.Laws.{in_order, due-leaves, refused-due}
+use Rattle.store.specs.Checks.Laws.{in_order, due_leaves, refused_due}
 use Rattle.sets.specs.Calls.{lent_checks}
 use Rattle.groups.specs.Answers.{Answer}
 use Rattle.outputs.specs.Outputs.{subsets_length, alts_length}
@@ -16,14 +16,14 @@ use Rattle.verdicts.specs.Calls.{conflicting_alt_subsets_call, conflicting_alts_
 -- ---- what a refusal leaves
 
 module _ (z o : List ℕ) where
-  pub refusal-reply : (n : ℕ) → (read_refusal z o n).reply ≡ refused n
+  pub refusal_reply : (n : ℕ) → (read_refusal z o n).reply ≡ refused n
   unfolding read_refusal
-  refusal-reply n = two n 2 (λ e. rw (eq-eqb n 2 e, read_refusal)) (λ d. rw (ne_eqb n 2 d, read_refusal))
+  refusal_reply n = two n 2 (λ e. rw (eq-eqb n 2 e, read_refusal)) (λ d. rw (ne_eqb n 2 d, read_refusal))
 
   -- "Store, set and outputs stay as on entry"
-  pub refusal-keeps : (n : ℕ) → (read_refusal z o n).output ≡ o
+  pub refusal_keeps : (n : ℕ) → (read_refusal z o n).output ≡ o
   unfolding read_refusal
-  refusal-keeps n = two n 2 (λ e. rw (eq-eqb n 2 e, read_refusal)) (λ d. rw (ne_eqb n 2 d, read_refusal))
+  refusal_keeps n = two n 2 (λ e. rw (eq-eqb n 2 e, read_refusal)) (λ d. rw (ne_eqb n 2 d, read_refusal))
 
   -- "scratch is 0 (untouched on 2)"
   pub refusal_scratch : (n : ℕ) → (n ≡ 2 → (read_refusal z o n).scratch ≡ z) × ((n ≡ 2 → ⊥) → (read_refusal z o n).scratch ≡ zeros)
@@ -39,18 +39,18 @@ Refuses l cs z o = (k : ℕ) → ((l.reply ≡ refused k) ↔ (due cs ≡ at k))
 pub ask_refuses : (n : ℕ) (more : List Check) (w v z o : List ℕ) (r : VerdictReply) (p : List ℕ) → ((k : ℕ) → r ≡ refused k → ⊥)
     → Refuses (read_call n more w v z o r p) (read_checks n more w v z o) z o
 unfolding read_call
-ask_refuses n more w v z o r p answers k = ((exactly, λ d. ap (λ (l : VerdictLeft). l.reply) (leaves d) ∙ refusal-reply z o k), λ e. leaves (exactly e))
+ask_refuses n more w v z o r p answers k = ((exactly, λ d. ap (λ (l : VerdictLeft). l.reply) (leaves d) ∙ refusal_reply z o k), λ e. leaves (exactly e))
   where
     number : (a b : ℕ) → refused a ≡ refused b → a ≡ b
     number a b e = cc
 
     exactly : (read_call n more w v z o r p).reply ≡ refused k → due (read_checks n more w v z o) ≡ at k
     exactly =
-        refused-due (read_refusal z o) (verdict_left r zeros p) (λ m l. l.reply ≡ refused m) (λ m l g. number l m (sym (refusal-reply z o l) ∙ g)) answers k
+        refused_due (read_refusal z o) (verdict_left r zeros p) (λ m l. l.reply ≡ refused m) (λ m l g. number l m (sym (refusal_reply z o l) ∙ g)) answers k
         (read_checks n more w v z o)
 
     leaves : due (read_checks n more w v z o) ≡ at k → read_call n more w v z o r p ≡ read_refusal z o k
-    leaves d = due-leaves (read_refusal z o) (verdict_left r zeros p) k (read_checks n more w v z o) d
+    leaves d = due_leaves (read_refusal z o) (verdict_left r zeros p) k (read_checks n more w v z o) d
 
 -- ---- the seven calls
 
@@ -64,36 +64,36 @@ written_no : (k : ℕ) → written ≡ refused k → ⊥
 written_no k e = let q : ◌≡◌ {A = ℕ} 0 1 = cc in omega arith
 
 module _ (w v z : List ℕ) where
-  pub unique-refuses : Refuses (unique_alt_call w v z) (read_checks 0 [] w v z []) z []
+  pub unique_refuses : Refuses (unique_alt_call w v z) (read_checks 0 [] w v z []) z []
   unfolding unique_alt_call
-  unique-refuses = ask_refuses 0 [] w v z [] _ [] (alternative_no _)
+  unique_refuses = ask_refuses 0 [] w v z [] _ [] (alternative_no _)
 
-  pub viable-refuses : Refuses (single_viable_alt_call w v z) (read_checks 0 [] w v z []) z []
+  pub viable_refuses : Refuses (single_viable_alt_call w v z) (read_checks 0 [] w v z []) z []
   unfolding single_viable_alt_call
-  viable-refuses = ask_refuses 0 [] w v z [] _ [] (alternative_no _)
+  viable_refuses = ask_refuses 0 [] w v z [] _ [] (alternative_no _)
 
-  pub conflict-refuses : Refuses (all_subsets_conflict_call w v z) (read_checks 0 [] w v z []) z []
+  pub conflict_refuses : Refuses (all_subsets_conflict_call w v z) (read_checks 0 [] w v z []) z []
   unfolding all_subsets_conflict_call
-  conflict-refuses = ask_refuses 0 [] w v z [] _ [] (says_no _)
+  conflict_refuses = ask_refuses 0 [] w v z [] _ [] (says_no _)
 
-  pub equal-refuses : Refuses (all_subsets_equal_call w v z) (read_checks 0 [] w v z []) z []
+  pub equal_refuses : Refuses (all_subsets_equal_call w v z) (read_checks 0 [] w v z []) z []
   unfolding all_subsets_equal_call
-  equal-refuses = ask_refuses 0 [] w v z [] _ [] (says_no _)
+  equal_refuses = ask_refuses 0 [] w v z [] _ [] (says_no _)
 
-  pub verdict-refuses : (stops : List ℕ) → Refuses (verdict_call w v z stops) (read_checks 0 (too_many_stops stops) w v z []) z []
+  pub verdict_refuses : (stops : List ℕ) → Refuses (verdict_call w v z stops) (read_checks 0 (too_many_stops stops) w v z []) z []
   unfolding verdict_call
-  verdict-refuses stops = ask_refuses 0 (too_many_stops stops) w v z [] _ [] (says_no _)
+  verdict_refuses stops = ask_refuses 0 (too_many_stops stops) w v z [] _ [] (says_no _)
 
   module _ (o : List ℕ) where
-    pub subsets-refuses : Refuses (conflicting_alt_subsets_call w v z o) (read_checks subsets_length [] w v z o) z o
+    pub subsets_refuses : Refuses (conflicting_alt_subsets_call w v z o) (read_checks subsets_length [] w v z o) z o
     unfolding conflicting_alt_subsets_call
-    subsets-refuses = ask_refuses subsets_length [] w v z o _ _ written_no
+    subsets_refuses = ask_refuses subsets_length [] w v z o _ _ written_no
 
-    pub alts-refuses : Refuses (conflicting_alts_call w v z o) (read_checks alts_length [] w v z o) z o
+    pub alts_refuses : Refuses (conflicting_alts_call w v z o) (read_checks alts_length [] w v z o) z o
     unfolding conflicting_alts_call
-    alts-refuses = ask_refuses alts_length [] w v z o _ _ written_no
+    alts_refuses = ask_refuses alts_length [] w v z o _ _ written_no
 
     -- 2, 1, 3, 10
-    pub read-in-order : (n : ℕ) (stops : List ℕ) → (in_order order (read_checks n [] w v z o) ≡ true) × (in_order order (read_checks n (too_many_stops stops) w v z o) ≡ true)
+    pub read_in_order : (n : ℕ) (stops : List ℕ) → (in_order order (read_checks n [] w v z o) ≡ true) × (in_order order (read_checks n (too_many_stops stops) w v z o) ≡ true)
     unfolding lent_checks in_order
-    read-in-order n stops = (refl, refl)
+    read_in_order n stops = (refl, refl)

@@ -1,5 +1,7 @@
 // The subsets of a config set, their alternatives, and the verdict. Each call is lent the set, its
 // store and the scratch, checks them itself, and leaves the scratch zero.
+#![tactic(auto)]
+
 mod answers;
 mod listing;
 mod single;

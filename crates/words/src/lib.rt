@@ -1,5 +1,7 @@
 // Leaves that everything above cites: the names of the border, the refusals, the interner's hash and
 // its multiplication, work on lent words, and the provenance word.
+#![tactic(auto)]
+
 mod hash;
 mod lent;
 mod multiply;

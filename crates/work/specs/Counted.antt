@@ -116,12 +116,12 @@ step m inner t a b =
       ]
     ]
 
--- so deep and no deeper; depth 0 is never reached (Theorems.one-step)
+-- so deep and no deeper; depth 0 is never reached (Theorems.one_step)
 unfoldable pub deep : Bool → ℕ → Merge
 deep m zero t a b = refused 12
 deep m (suc f) t a b = step m (deep m f) t a b
 
--- the merge of a and b: parents are older, so this is deep enough, and the merge is one `step` over itself (Theorems.one-step)
+-- the merge of a and b: parents are older, so this is deep enough, and the merge is one `step` over itself (Theorems.one_step)
 unfoldable pub counted : Bool → Merge
 counted m t a b = deep m (suc (a + b)) t a b
 

@@ -10,7 +10,7 @@ use Rattle.cases.specs.Numbers.{three}
 use Rattle.arena.specs.Store.{Node, end, dollar, push, Store, node_at, at, nowhere}
 use Rattle.work.specs.Counted.{most_merges, State, Outcome, done, refused, and_then, recall, completed, interned}
 use Rattle.work.specs.Counted.{before, Merge, walk, made, begins, step, deep, counted}
-use Rattle.work.specs.Counted.Laws.{walk-less, walk-greater, walk-equal}
+use Rattle.work.specs.Counted.Laws.{walk_less, walk_greater, walk_equal}
 use Rattle.work.specs.After.{Good, Went, After}
 use Rattle.work.specs.Walked.{Serves, Listed, listed_next, listed_on}
 use Rattle.work.specs.Served.{listed_at, begins_good, deep_serves}
@@ -28,42 +28,42 @@ then_agree X Y t w x (refused n) g h a e = refl
 
 module _ (m : Bool) (f : ℕ) (inner outer : Merge) (serves : Serves m f inner) (agree : Agree f inner outer) where
   module _ (a b : ℕ) (small : a + b ≤ f + 1) where
-    walk-agree : (t : State) (n k : Node) (lo lo' : ℕ) → Good t → Listed t a lo n → Listed t b lo' k → walk inner t n k ≡ walk outer t n k
+    walk_agree : (t : State) (n k : Node) (lo lo' : ℕ) → Good t → Listed t a lo n → Listed t b lo' k → walk inner t n k ≡ walk outer t n k
     unfolding walk
-    walk-agree t end k lo lo' v x y = refl
-    walk-agree t dollar end lo lo' v x y = refl
-    walk-agree t dollar dollar lo lo' v x y = refl
-    walk-agree t dollar (push q o k) lo lo' v x y = ap (before q o) (walk-agree t dollar k lo (suc q) v x (listed_on t b lo' q o k y))
-    walk-agree t (push r p n) end lo lo' v x y = refl
-    walk-agree t (push r p n) dollar lo lo' v x y = ap (before r p) (walk-agree t n dollar (suc r) lo' v (listed_on t a lo r p n x) y)
-    walk-agree t (push r p n) (push q o k) lo lo' v x y =
+    walk_agree t end k lo lo' v x y = refl
+    walk_agree t dollar end lo lo' v x y = refl
+    walk_agree t dollar dollar lo lo' v x y = refl
+    walk_agree t dollar (push q o k) lo lo' v x y = ap (before q o) (walk_agree t dollar k lo (suc q) v x (listed_on t b lo' q o k y))
+    walk_agree t (push r p n) end lo lo' v x y = refl
+    walk_agree t (push r p n) dollar lo lo' v x y = ap (before r p) (walk_agree t n dollar (suc r) lo' v (listed_on t a lo r p n x) y)
+    walk_agree t (push r p n) (push q o k) lo lo' v x y =
         three r q
-        (λ h. walk-less inner t r p n q o k h
-        ∙ ap (before r p) (walk-agree t n (push q o k) (suc r) lo' v (listed_on t a lo r p n x) y)
-        ∙ sym (walk-less outer t r p n q o k h))
+        (λ h. walk_less inner t r p n q o k h
+        ∙ ap (before r p) (walk_agree t n (push q o k) (suc r) lo' v (listed_on t a lo r p n x) y)
+        ∙ sym (walk_less outer t r p n q o k h))
         (λ h.
         let kp : p < length t.store = omega (arith, x.rise.1, x.known) in
         let ko : o < length t.store = omega (arith, y.rise.1, y.known) in
         let less : p + o < f = omega (arith, x.rise.1, y.rise.1) in
-        walk-equal inner t r p n q o k h
+        walk_equal inner t r p n q o k h
         ∙ then_agree ℕ Node t _ _ (inner t p o) _ _ (serves t p o v kp ko less)
         (λ c u z. ap (before r c)
-        (walk-agree u n k (suc r) (suc q) z.good (listed_next t u a lo r p n z.grew x) (listed_next t u b lo' q o k z.grew y)))
+        (walk_agree u n k (suc r) (suc q) z.good (listed_next t u a lo r p n z.grew x) (listed_next t u b lo' q o k z.grew y)))
         ∙ ap (λ (i : Outcome ℕ). and_then ℕ Node i (λ c u. before r c (walk outer u n k))) (agree t p o v kp ko less)
-        ∙ sym (walk-equal outer t r p n q o k h))
-        (λ h. walk-greater inner t r p n q o k h
-        ∙ ap (before q o) (walk-agree t (push r p n) k lo (suc q) v x (listed_on t b lo' q o k y))
-        ∙ sym (walk-greater outer t r p n q o k h))
+        ∙ sym (walk_equal outer t r p n q o k h))
+        (λ h. walk_greater inner t r p n q o k h
+        ∙ ap (before q o) (walk_agree t (push r p n) k lo (suc q) v x (listed_on t b lo' q o k y))
+        ∙ sym (walk_greater outer t r p n q o k h))
 
-  made-agree : (t : State) (a b : ℕ) → Good t → a < length t.store → b < length t.store → a + b ≤ f → made m inner t a b ≡ made m outer t a b
+  made_agree : (t : State) (a b : ℕ) → Good t → a < length t.store → b < length t.store → a + b ≤ f → made m inner t a b ≡ made m outer t a b
   unfolding made
-  made-agree t a b v h k small =
+  made_agree t a b v h k small =
       ap (λ (x : Outcome Node). elim (m && (eqb a 0 || eqb b 0)) [ true ↦ done 0 t | false ↦ and_then Node ℕ x interned ])
-      (walk-agree a b (omega arith) t (node_at t.store a) (node_at t.store b) 0 0 v (listed_at t a v h) (listed_at t b v k))
+      (walk_agree a b (omega arith) t (node_at t.store a) (node_at t.store b) 0 0 v (listed_at t a v h) (listed_at t b v k))
 
-  pub step-agree : Agree (suc f) (step m inner) (step m outer)
+  pub step_agree : Agree (suc f) (step m inner) (step m outer)
   unfolding step begins
-  step-agree t a b v h k small =
+  step_agree t a b v h k small =
       ap (λ (x : Outcome ℕ). elim (eqb a b) [
         | true ↦ done a t
         | false ↦ elim (recall m (min a b) (max a b) t.kept) [ at c ↦ done c t | nowhere ↦ x ]
@@ -75,21 +75,21 @@ module _ (m : Bool) (f : ℕ) (inner outer : Merge) (serves : Serves m f inner) 
           (elim l [ true ↦ and_then ℕ ℕ (made m outer (begins t) a b) (completed m a b) | false ↦ refused 12 ])
       go true l =
           ap (λ (x : Outcome ℕ). and_then ℕ ℕ x (completed m a b))
-          (made-agree (begins t) a b (begins_good t v (ltb-true t.count most_merges l)).good h k (omega arith))
+          (made_agree (begins t) a b (begins_good t v (ltb-true t.count most_merges l)).good h k (omega arith))
       go false l = refl
 
 pub deep_agree : (m : Bool) (f g : ℕ) → f ≤ g → Agree f (deep m f) (deep m g)
 unfolding deep
 deep_agree m zero g h = λ t a b v i j small. absurd (omega arith)
 deep_agree m (suc f) zero h = absurd (omega arith)
-deep_agree m (suc f) (suc g) h = step-agree m f (deep m f) (deep m g) (deep_serves m f) (deep_agree m f g (omega arith))
+deep_agree m (suc f) (suc g) h = step_agree m f (deep m f) (deep m g) (deep_serves m f) (deep_agree m f g (omega arith))
 
 -- the merge is one step over merges
 pub counted_step : (m : Bool) (t : State) (a b : ℕ) → Good t → a < length t.store → b < length t.store
     → counted m t a b ≡ step m (counted m) t a b
 unfolding counted deep
 counted_step m t a b v h k =
-    step-agree m (a + b) (deep m (a + b)) (counted m) (deep_serves m (a + b))
+    step_agree m (a + b) (deep m (a + b)) (counted m) (deep_serves m (a + b))
     (λ u p o w i j less. sym (deep_agree m (suc (p + o)) (a + b) less u p o w i j (omega arith)))
     t a b v h k (omega arith)
 

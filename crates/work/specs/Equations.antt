@@ -7,13 +7,13 @@ use borrow.Author.Tests.{eq-eqb, ne_eqb, lt-ltb, le-ltb}
 use Rattle.cases.specs.Bools.{is_false}
 use Rattle.arena.specs.Store.{Node, end, dollar, push, node_at, at, nowhere, find}
 use Rattle.arena.specs.Soundness.{Full}
-use Rattle.arena.specs.Placed.{intern-found, intern-made}
+use Rattle.arena.specs.Placed.{intern_found, intern_made}
 use Rattle.layout.specs.Ceilings.{Fits}
 use Rattle.encoding.specs.Decide.{fits}
 use Rattle.encoding.specs.Decide.Laws.{fits_true, true_fits}
 use Rattle.work.specs.Counted.{most_merges, most_results, Result, State, standing, Outcome, done, refused, and_then}
 use Rattle.work.specs.Counted.{recall, keep, completed, interned, before, Merge, walk, made, begins, step, counted}
-use Rattle.work.specs.Counted.Laws.{walk-equal}
+use Rattle.work.specs.Counted.Laws.{walk_equal}
 use Rattle.work.specs.After.{Good}
 use Rattle.work.specs.Depth.{counted_step}
 
@@ -25,14 +25,14 @@ module _ (m : Bool) (t : State) (a b : ℕ) (v : Good t) (left : a < length t.st
   merge_equal e = counted_step m t a b v left right ∙ rw (eq-eqb a b e, step)
 
   module _ (differ : a ≡ b → ⊥) where
-    pub merge-hit : (c : ℕ) → recall m (min a b) (max a b) t.kept ≡ at c → counted m t a b ≡ done c t
+    pub merge_hit : (c : ℕ) → recall m (min a b) (max a b) t.kept ≡ at c → counted m t a b ≡ done c t
     unfolding step
-    merge-hit c e = counted_step m t a b v left right ∙ rw (ne_eqb a b differ, step, e)
+    merge_hit c e = counted_step m t a b v left right ∙ rw (ne_eqb a b differ, step, e)
 
     module _ (missed : recall m (min a b) (max a b) t.kept ≡ nowhere) where
-      pub merge-refused : t.count ≡ 65536 → counted m t a b ≡ refused 12
+      pub merge_refused : t.count ≡ 65536 → counted m t a b ≡ refused 12
       unfolding step
-      merge-refused h = counted_step m t a b v left right ∙ rw (ne_eqb a b differ, step, missed, le-ltb t.count most_merges (omega arith))
+      merge_refused h = counted_step m t a b v left right ∙ rw (ne_eqb a b differ, step, missed, le-ltb t.count most_merges (omega arith))
 
       pub merge_counts : t.count < 65536 → counted m t a b ≡ and_then ℕ ℕ (made m (counted m) (begins t) a b) (completed m a b)
       unfolding step
@@ -41,13 +41,13 @@ module _ (m : Bool) (t : State) (a b : ℕ) (v : Good t) (left : a < length t.st
 -- ---- a merge that counts: swallowed, or walked
 
 module _ (inner : Merge) (t : State) (a b : ℕ) where
-  pub swallowed-left : a ≡ 0 → made true inner t a b ≡ done 0 t
+  pub swallowed_left : a ≡ 0 → made true inner t a b ≡ done 0 t
   unfolding made
-  swallowed-left e = rw (eq-eqb a 0 e, made)
+  swallowed_left e = rw (eq-eqb a 0 e, made)
 
-  pub swallowed-right : b ≡ 0 → made true inner t a b ≡ done 0 t
+  pub swallowed_right : b ≡ 0 → made true inner t a b ≡ done 0 t
   unfolding made
-  swallowed-right e = rw (eq-eqb b 0 e, or-true (eqb a 0), made)
+  swallowed_right e = rw (eq-eqb b 0 e, or-true (eqb a 0), made)
 
   pub walked : (m : Bool) → (m ≡ true → (0 < a) × (0 < b))
       → made m inner t a b ≡ and_then Node ℕ (walk inner t (node_at t.store a) (node_at t.store b)) interned
@@ -77,13 +77,13 @@ onward_onward g h (done n u) = refl
 onward_onward g h (refused n) = refl
 
 module _ (inner : Merge) (t : State) (r p : ℕ) (n : Node) (q o : ℕ) (k : Node) (e : r ≡ q) where
-  pub both-done : (c : ℕ) (u : State) → inner t p o ≡ done c u → walk inner t (push r p n) (push q o k) ≡ before r c (walk inner u n k)
+  pub both_done : (c : ℕ) (u : State) → inner t p o ≡ done c u → walk inner t (push r p n) (push q o k) ≡ before r c (walk inner u n k)
   unfolding and_then
-  both-done c u h = walk-equal inner t r p n q o k e ∙ rw (h, and_then)
+  both_done c u h = walk_equal inner t r p n q o k e ∙ rw (h, and_then)
 
-  pub both-refused : (i : ℕ) → inner t p o ≡ refused i → walk inner t (push r p n) (push q o k) ≡ refused i
+  pub both_refused : (i : ℕ) → inner t p o ≡ refused i → walk inner t (push r p n) (push q o k) ≡ refused i
   unfolding and_then
-  both-refused i h = walk-equal inner t r p n q o k e ∙ rw (h, and_then)
+  both_refused i h = walk_equal inner t r p n q o k e ∙ rw (h, and_then)
 
 pub walk_end : (inner : Merge) (t : State) (n : Node) → walk inner t n end ≡ done n t
 unfolding walk
@@ -94,29 +94,29 @@ walk_end inner t (push r p n) = refl
 -- ---- interning: found, appended, or no room
 
 module _ (n : Node) (t : State) (h : Full n) where
-  pub interned-found : (c : ℕ) → Fits t.store → find n t.store ≡ at c → interned n t ≡ done c t
+  pub interned_found : (c : ℕ) → Fits t.store → find n t.store ≡ at c → interned n t ≡ done c t
   unfolding interned
-  interned-found c f e = let i = intern-found n t.store h c e in rw (i, interned, true_fits t.store f, i)
+  interned_found c f e = let i = intern_found n t.store h c e in rw (i, interned, true_fits t.store f, i)
 
-  pub interned-made : find n t.store ≡ nowhere → Fits (n ∷ t.store)
+  pub interned_made : find n t.store ≡ nowhere → Fits (n ∷ t.store)
       → interned n t ≡ done (length t.store) (standing (n ∷ t.store) t.kept t.count)
   unfolding interned
-  interned-made e f = let i = intern-made n t.store h e in rw (i, interned, true_fits (n ∷ t.store) f, i)
+  interned_made e f = let i = intern_made n t.store h e in rw (i, interned, true_fits (n ∷ t.store) f, i)
 
-  pub interned-refused : find n t.store ≡ nowhere → (Fits (n ∷ t.store) → ⊥) → interned n t ≡ refused 6
+  pub interned_refused : find n t.store ≡ nowhere → (Fits (n ∷ t.store) → ⊥) → interned n t ≡ refused 6
   unfolding interned
-  interned-refused e f =
-      let i = intern-made n t.store h e in
+  interned_refused e f =
+      let i = intern_made n t.store h e in
       let full : fits (n ∷ t.store) ≡ false = is_false _ (λ q. f (fits_true (n ∷ t.store) q)) in
       rw (i, interned, full)
 
 -- ---- keeping: one more, or none
 
 module _ (r : Result) (k : List Result) where
-  pub keep-more : length k < 1024 → keep r k ≡ r ∷ k
+  pub keep_more : length k < 1024 → keep r k ≡ r ∷ k
   unfolding keep
-  keep-more h = rw (lt-ltb (length k) most_results (omega arith), keep)
+  keep_more h = rw (lt-ltb (length k) most_results (omega arith), keep)
 
-  pub keep-full : 1024 ≤ length k → keep r k ≡ k
+  pub keep_full : 1024 ≤ length k → keep r k ≡ k
   unfolding keep
-  keep-full h = rw (le-ltb (length k) most_results (omega arith), keep)
+  keep_full h = rw (le-ltb (length k) most_results (omega arith), keep)

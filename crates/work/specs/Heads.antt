@@ -8,8 +8,8 @@ use Rattle.arena.specs.Soundness.{Full}
 use Rattle.arena.specs.Below.{NodeBelow}
 use Rattle.layout.specs.Layout.{stop}
 use Rattle.work.specs.Counted.{State, Outcome, done, refused, and_then, before, Merge, walk}
-use Rattle.work.specs.Counted.Laws.{walk-less, walk-greater}
-use Rattle.work.specs.Equations.{onward, onward_same, both-done, both-refused}
+use Rattle.work.specs.Counted.Laws.{walk_less, walk_greater}
+use Rattle.work.specs.Equations.{onward, onward_same, both_done, both_refused}
 
 unfoldable pub head_state : Node → ℕ
 head_state end = 0
@@ -52,54 +52,54 @@ pub record Heads (n k : Node) : Type 0 where
   pub right_below : NodeBelow stop k
 
 module _ (inner : Merge) (t : State) where
-  pub head-less : (n k : Node) → Heads n k → head_state n < head_state k
+  pub head_less : (n k : Node) → Heads n k → head_state n < head_state k
       → walk inner t n k ≡ onward (cons (head_state n) (head_parent n)) (walk inner t (tail n) k)
   unfolding head_state head_parent tail walk
-  head-less end k v h = absurd v.left
-  head-less dollar end v h = absurd v.right
-  head-less dollar dollar v h = absurd (omega arith)
-  head-less dollar (push q o k) v h = absurd (omega (arith, v.right_below.0))
-  head-less (push r p n) end v h = absurd v.right
-  head-less (push r p n) dollar v h = before_cons r p _ v.left_below.0
-  head-less (push r p n) (push q o k) v h = walk-less inner t r p n q o k h ∙ before_cons r p _ v.left_below.0
+  head_less end k v h = absurd v.left
+  head_less dollar end v h = absurd v.right
+  head_less dollar dollar v h = absurd (omega arith)
+  head_less dollar (push q o k) v h = absurd (omega (arith, v.right_below.0))
+  head_less (push r p n) end v h = absurd v.right
+  head_less (push r p n) dollar v h = before_cons r p _ v.left_below.0
+  head_less (push r p n) (push q o k) v h = walk_less inner t r p n q o k h ∙ before_cons r p _ v.left_below.0
 
-  pub head-greater : (n k : Node) → Heads n k → head_state k < head_state n
+  pub head_greater : (n k : Node) → Heads n k → head_state k < head_state n
       → walk inner t n k ≡ onward (cons (head_state k) (head_parent k)) (walk inner t n (tail k))
   unfolding head_state head_parent tail walk
-  head-greater end k v h = absurd v.left
-  head-greater dollar end v h = absurd v.right
-  head-greater dollar dollar v h = absurd (omega arith)
-  head-greater dollar (push q o k) v h = before_cons q o _ v.right_below.0
-  head-greater (push r p n) end v h = absurd v.right
-  head-greater (push r p n) dollar v h = absurd (omega (arith, v.left_below.0))
-  head-greater (push r p n) (push q o k) v h = walk-greater inner t r p n q o k h ∙ before_cons q o _ v.right_below.0
+  head_greater end k v h = absurd v.left
+  head_greater dollar end v h = absurd v.right
+  head_greater dollar dollar v h = absurd (omega arith)
+  head_greater dollar (push q o k) v h = before_cons q o _ v.right_below.0
+  head_greater (push r p n) end v h = absurd v.right
+  head_greater (push r p n) dollar v h = absurd (omega (arith, v.left_below.0))
+  head_greater (push r p n) (push q o k) v h = walk_greater inner t r p n q o k h ∙ before_cons q o _ v.right_below.0
 
   -- equal heads; `$` on both sides is a merge of 0 and 0 in the code, which are equal numbers
   module _ (equals : inner t 0 0 ≡ done 0 t) where
-    pub head-equal : (n k : Node) → Heads n k → head_state n ≡ head_state k → (c : ℕ) (u : State) → inner t (head_parent n) (head_parent k) ≡ done c u
+    pub head_equal : (n k : Node) → Heads n k → head_state n ≡ head_state k → (c : ℕ) (u : State) → inner t (head_parent n) (head_parent k) ≡ done c u
         → walk inner t n k ≡ onward (cons (head_state n) c) (walk inner u (tail n) (tail k))
     unfolding head_state head_parent tail walk onward and_then
-    head-equal end k v h c u e = absurd v.left
-    head-equal dollar end v h c u e = absurd v.right
-    head-equal dollar dollar v h c u e =
+    head_equal end k v h c u e = absurd v.left
+    head_equal dollar end v h c u e = absurd v.right
+    head_equal dollar dollar v h c u e =
         let q : ◌≡◌ {A = Outcome ℕ} (done 0 t) (done c u) = sym equals ∙ e in
         let s : t ≡ u = cc in
         rw (cons_stop stop c end refl, s)
-    head-equal dollar (push q o k) v h c u e = absurd (omega (arith, v.right_below.0))
-    head-equal (push r p n) end v h c u e = absurd v.right
-    head-equal (push r p n) dollar v h c u e = absurd (omega (arith, v.left_below.0))
-    head-equal (push r p n) (push q o k) v h c u e = both-done inner t r p n q o k h c u e ∙ before_cons r c _ v.left_below.0
+    head_equal dollar (push q o k) v h c u e = absurd (omega (arith, v.right_below.0))
+    head_equal (push r p n) end v h c u e = absurd v.right
+    head_equal (push r p n) dollar v h c u e = absurd (omega (arith, v.left_below.0))
+    head_equal (push r p n) (push q o k) v h c u e = both_done inner t r p n q o k h c u e ∙ before_cons r c _ v.left_below.0
 
-    pub head-refused : (n k : Node) → Heads n k → head_state n ≡ head_state k → (i : ℕ) → inner t (head_parent n) (head_parent k) ≡ refused i
+    pub head_refused : (n k : Node) → Heads n k → head_state n ≡ head_state k → (i : ℕ) → inner t (head_parent n) (head_parent k) ≡ refused i
         → walk inner t n k ≡ refused i
     unfolding head_state head_parent walk
-    head-refused end k v h i e = absurd v.left
-    head-refused dollar end v h i e = absurd v.right
-    head-refused dollar dollar v h i e =
+    head_refused end k v h i e = absurd v.left
+    head_refused dollar end v h i e = absurd v.right
+    head_refused dollar dollar v h i e =
         let q : ◌≡◌ {A = Outcome ℕ} (done 0 t) (refused i) = sym equals ∙ e in
         let z : ◌≡◌ {A = ℕ} 0 1 = cc in
         absurd (omega arith)
-    head-refused dollar (push q o k) v h i e = absurd (omega (arith, v.right_below.0))
-    head-refused (push r p n) end v h i e = absurd v.right
-    head-refused (push r p n) dollar v h i e = absurd (omega (arith, v.left_below.0))
-    head-refused (push r p n) (push q o k) v h i e = both-refused inner t r p n q o k h i e
+    head_refused dollar (push q o k) v h i e = absurd (omega (arith, v.right_below.0))
+    head_refused (push r p n) end v h i e = absurd v.right
+    head_refused (push r p n) dollar v h i e = absurd (omega (arith, v.left_below.0))
+    head_refused (push r p n) (push q o k) v h i e = both_refused inner t r p n q o k h i e

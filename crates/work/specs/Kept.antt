@@ -10,7 +10,7 @@ use Rattle.arena.specs.Soundness.{Sound}
 use Rattle.arena.specs.Trees.{at_inj, at_nowhere, tree_canon}
 use Rattle.arena.specs.Place.{merge_s}
 use Rattle.arena.specs.Placed.{Grew, grew_refl, grew_length, grew_tree, Holds}
-use Rattle.arena.specs.Steps.{merge-holds, merge-grew, merge-known, merge-sides}
+use Rattle.arena.specs.Steps.{merge_holds, merge_grew, merge_known, merge_sides}
 use Rattle.work.specs.Counted.{most_results, Result, State, recall, keep, completed}
 use Rattle.work.specs.Counted.Laws.{result, test, by_sides}
 use Rattle.work.specs.After.{Right, AllRight, Good, After}
@@ -53,8 +53,8 @@ pub hit : (m : Bool) (s : Store) → Sound s → (a b : ℕ) (k : List Result) (
 hit m s w a b k c h j v e =
     let r = recall_right m s (min a b) (max a b) k c v e in
     let q : merge_s m s (min a b) (max a b) ≡ merge_s m s a b =
-    by_sides (λ x y. merge_s m s x y ≡ merge_s m s a b) a b refl (merge-sides m s w b a j h) in
-    sym q ∙ merge-known m s w (min a b) (max a b) r.left r.right c r.known r.is
+    by_sides (λ x y. merge_s m s x y ≡ merge_s m s a b) a b refl (merge_sides m s w b a j h) in
+    sym q ∙ merge_known m s w (min a b) (max a b) r.left r.right c r.known r.is
 
 -- ---- what is kept is right
 
@@ -62,8 +62,8 @@ hit m s w a b k c h j v e =
 pub answer_right : (m : Bool) (s u : Store) → Sound s → (a b c : ℕ) → a < length s → b < length s → merge_s m s a b ≡ (c, u)
     → Right m u (min a b) (max a b) c
 answer_right m s u w a b c h k e =
-    let g : Grew s u = rw e at (merge-grew m s w a b h k) in
-    let v : Holds u c _ = rw e at (merge-holds m s w a b h k) in
+    let g : Grew s u = rw e at (merge_grew m s w a b h k) in
+    let v : Holds u c _ = rw e at (merge_holds m s w a b h k) in
     let l : length s ≤ length u = grew_length s u g in
     let r : Right m u a b c = record {
       left = omega arith;

@@ -50,52 +50,52 @@ packed_small false a b c h i j = omega arith
 
 module _ (base : ℕ) where
   -- the first n results, the newest first
-  unfoldable pub keptIn : List ℕ → ℕ → List Result
-  keptIn z zero = []
-  keptIn z (suc n) = result_in (get_or z (base + n) 0) ∷ keptIn z n
+  unfoldable pub kept_in : List ℕ → ℕ → List Result
+  kept_in z zero = []
+  kept_in z (suc n) = result_in (get_or z (base + n) 0) ∷ kept_in z n
 
-  pub kept-length : (z : List ℕ) (n : ℕ) → length (keptIn z n) ≡ n
-  unfolding keptIn
-  kept-length z zero = refl
-  kept-length z (suc n) = ap suc (kept-length z n)
+  pub kept_length : (z : List ℕ) (n : ℕ) → length (kept_in z n) ≡ n
+  unfolding kept_in
+  kept_length z zero = refl
+  kept_length z (suc n) = ap suc (kept_length z n)
 
   -- words beside them do not matter
-  pub kept_frame : (z u : List ℕ) (n : ℕ) → ((i : ℕ) → i < n → get_or u (base + i) 0 ≡ get_or z (base + i) 0) → keptIn u n ≡ keptIn z n
-  unfolding keptIn
+  pub kept_frame : (z u : List ℕ) (n : ℕ) → ((i : ℕ) → i < n → get_or u (base + i) 0 ≡ get_or z (base + i) 0) → kept_in u n ≡ kept_in z n
+  unfolding kept_in
   kept_frame z u zero same = refl
   kept_frame z u (suc n) same = rw (same n (omega arith), kept_frame z u n (λ i h. same i (omega arith)))
 
   -- one result more is one word more
-  pub kept_more : (z : List ℕ) (n x : ℕ) → base + n < length z → keptIn (set z (base + n) x) (suc n) ≡ result_in x ∷ keptIn z n
-  unfolding keptIn
+  pub kept_more : (z : List ℕ) (n x : ℕ) → base + n < length z → kept_in (set z (base + n) x) (suc n) ≡ result_in x ∷ kept_in z n
+  unfolding kept_in
   kept_more z n x h =
       let here : get_or (set z (base + n) x) (base + n) 0 ≡ x = rw get_or-set_same in
-      let others : keptIn (set z (base + n) x) n ≡ keptIn z n =
+      let others : kept_in (set z (base + n) x) n ≡ kept_in z n =
       kept_frame z (set z (base + n) x) n (λ i k. let o : base + i ≡ base + n → ⊥ = omega arith in rw get_or-set_other) in
       rw (here, others)
 
   -- ---- looked for by place, in any order
 
-  kept_at : (z : List ℕ) (n i : ℕ) → i < n → In (result_in (get_or z (base + i) 0)) (keptIn z n)
-  unfolding keptIn
+  kept_at : (z : List ℕ) (n i : ℕ) → i < n → In (result_in (get_or z (base + i) 0)) (kept_in z n)
+  unfolding kept_in
   kept_at z zero i h = absurd (omega arith)
   kept_at z (suc n) i h = two i n (λ e. inl (rw e)) (λ o. inr (kept_at z n i (omega arith)))
 
-  kept-place : (z : List ℕ) (n : ℕ) (r : Result) → In r (keptIn z n) → (i : ℕ) × (i < n) × (r ≡ result_in (get_or z (base + i) 0))
-  unfolding keptIn
-  kept-place z zero r v = absurd v
-  kept-place z (suc n) r (inl e) = (n, omega arith, e)
-  kept-place z (suc n) r (inr v) = let p = kept-place z n r v in (p.0, omega (arith, p.1), p.2)
+  kept_place : (z : List ℕ) (n : ℕ) (r : Result) → In r (kept_in z n) → (i : ℕ) × (i < n) × (r ≡ result_in (get_or z (base + i) 0))
+  unfolding kept_in
+  kept_place z zero r v = absurd v
+  kept_place z (suc n) r (inl e) = (n, omega arith, e)
+  kept_place z (suc n) r (inr v) = let p = kept_place z n r v in (p.0, omega (arith, p.1), p.2)
 
   module _ (z : List ℕ) (n : ℕ) (m : Bool) (a b : ℕ) where
     -- a place whose word has the key answers
-    pub place-hit : Distinct (keptIn z n) → (i : ℕ) → i < n → (c : ℕ) → result_in (get_or z (base + i) 0) ≡ result m a b c
-        → recall m a b (keptIn z n) ≡ at c
-    place-hit d i h c e = (hit_exactly m a b c (keptIn z n) d).1 (rw e at (kept_at z n i h))
+    pub place_hit : Distinct (kept_in z n) → (i : ℕ) → i < n → (c : ℕ) → result_in (get_or z (base + i) 0) ≡ result m a b c
+        → recall m a b (kept_in z n) ≡ at c
+    place_hit d i h c e = (hit_exactly m a b c (kept_in z n) d).1 (rw e at (kept_at z n i h))
 
     -- and where no place has it, none was kept
-    pub place-miss : ((i : ℕ) → i < n → (c : ℕ) → result_in (get_or z (base + i) 0) ≡ result m a b c → ⊥) → recall m a b (keptIn z n) ≡ nowhere
-    place-miss none =
-        found? m a b (keptIn z n)
-        (λ c e. let p = kept-place z n (result m a b c) (recall_from m a b c (keptIn z n) e) in absurd (none p.0 p.1 c (sym p.2)))
+    pub place_miss : ((i : ℕ) → i < n → (c : ℕ) → result_in (get_or z (base + i) 0) ≡ result m a b c → ⊥) → recall m a b (kept_in z n) ≡ nowhere
+    place_miss none =
+        found? m a b (kept_in z n)
+        (λ c e. let p = kept_place z n (result m a b c) (recall_from m a b c (kept_in z n) e) in absurd (none p.0 p.1 c (sym p.2)))
         (λ e. e)

@@ -12,7 +12,7 @@ use Rattle.arena.specs.Place.{intern}
 use Rattle.encoding.specs.Decide.{fits}
 use Rattle.work.specs.Counted.{most_merges, most_results, Result, State, standing, Outcome, done, refused, and_then}
 use Rattle.work.specs.Counted.{recall, keep, completed, interned, before, Merge, walk, made, begins, step, deep, counted}
-use Rattle.work.specs.Counted.Laws.{result, test, found, walk-less, walk-greater, walk-equal}
+use Rattle.work.specs.Counted.Laws.{result, test, found, walk_less, walk_greater, walk_equal}
 use Rattle.work.specs.After.{Good, Went, After}
 use Rattle.work.specs.Kept.{key_is}
 use Rattle.work.specs.Walked.{Serves, Listed, listed_next, listed_on, walk_after}
@@ -90,36 +90,36 @@ TidyUpTo f inner = (t : State) (a b : ℕ) → Good t → a < length t.store →
 
 module _ (m : Bool) (f : ℕ) (inner : Merge) (serves : Serves m f inner) (tidy : TidyUpTo f inner) where
   module _ (a b : ℕ) (small : a + b ≤ f + 1) where
-    tidy-walk : (t : State) (n k : Node) (lo lo' : ℕ) → Good t → Listed t a lo n → Listed t b lo' k → Tidy Node (a + b) t (walk inner t n k)
+    tidy_walk : (t : State) (n k : Node) (lo lo' : ℕ) → Good t → Listed t a lo n → Listed t b lo' k → Tidy Node (a + b) t (walk inner t n k)
     unfolding walk
-    tidy-walk t end k lo lo' v x y = stay (a + b) t t refl
-    tidy-walk t dollar end lo lo' v x y = stay (a + b) t t refl
-    tidy-walk t dollar dollar lo lo' v x y = stay (a + b) t t refl
-    tidy-walk t dollar (push q o k) lo lo' v x y =
-        tidy_before (a + b) t q o (walk inner t dollar k) (tidy-walk t dollar k lo (suc q) v x (listed_on t b lo' q o k y))
-    tidy-walk t (push r p n) end lo lo' v x y = stay (a + b) t t refl
-    tidy-walk t (push r p n) dollar lo lo' v x y =
-        tidy_before (a + b) t r p (walk inner t n dollar) (tidy-walk t n dollar (suc r) lo' v (listed_on t a lo r p n x) y)
-    tidy-walk t (push r p n) (push q o k) lo lo' v x y =
+    tidy_walk t end k lo lo' v x y = stay (a + b) t t refl
+    tidy_walk t dollar end lo lo' v x y = stay (a + b) t t refl
+    tidy_walk t dollar dollar lo lo' v x y = stay (a + b) t t refl
+    tidy_walk t dollar (push q o k) lo lo' v x y =
+        tidy_before (a + b) t q o (walk inner t dollar k) (tidy_walk t dollar k lo (suc q) v x (listed_on t b lo' q o k y))
+    tidy_walk t (push r p n) end lo lo' v x y = stay (a + b) t t refl
+    tidy_walk t (push r p n) dollar lo lo' v x y =
+        tidy_before (a + b) t r p (walk inner t n dollar) (tidy_walk t n dollar (suc r) lo' v (listed_on t a lo r p n x) y)
+    tidy_walk t (push r p n) (push q o k) lo lo' v x y =
         three r q
-        (λ h. rw (walk-less inner t r p n q o k h)
-        (tidy_before (a + b) t r p (walk inner t n (push q o k)) (tidy-walk t n (push q o k) (suc r) lo' v (listed_on t a lo r p n x) y)))
+        (λ h. rw (walk_less inner t r p n q o k h)
+        (tidy_before (a + b) t r p (walk inner t n (push q o k)) (tidy_walk t n (push q o k) (suc r) lo' v (listed_on t a lo r p n x) y)))
         (λ h.
         let kp : p < length t.store = omega (arith, x.rise.1, x.known) in
         let ko : o < length t.store = omega (arith, y.rise.1, y.known) in
         let less : p + o < f = omega (arith, x.rise.1, y.rise.1) in
-        rw (walk-equal inner t r p n q o k h)
+        rw (walk_equal inner t r p n q o k h)
         (tidy_then ℕ Node (suc (p + o)) (a + b) (a + b) t _ _ (inner t p o) (λ c u. before r c (walk inner u n k))
         (omega (arith, x.rise.1, y.rise.1)) (omega arith)
         (serves t p o v kp ko less) (tidy t p o v kp ko less)
         (λ c u z _. tidy_before (a + b) u r c (walk inner u n k)
-        (tidy-walk u n k (suc r) (suc q) z.good (listed_next t u a lo r p n z.grew x) (listed_next t u b lo' q o k z.grew y)))))
-        (λ h. rw (walk-greater inner t r p n q o k h)
-        (tidy_before (a + b) t q o (walk inner t (push r p n) k) (tidy-walk t (push r p n) k lo (suc q) v x (listed_on t b lo' q o k y))))
+        (tidy_walk u n k (suc r) (suc q) z.good (listed_next t u a lo r p n z.grew x) (listed_next t u b lo' q o k z.grew y)))))
+        (λ h. rw (walk_greater inner t r p n q o k h)
+        (tidy_before (a + b) t q o (walk inner t (push r p n) k) (tidy_walk t (push r p n) k lo (suc q) v x (listed_on t b lo' q o k y))))
 
-  tidy-made : (t : State) (a b : ℕ) → Good t → a < length t.store → b < length t.store → a + b ≤ f → Tidy ℕ (a + b) t (made m inner t a b)
+  tidy_made : (t : State) (a b : ℕ) → Good t → a < length t.store → b < length t.store → a + b ≤ f → Tidy ℕ (a + b) t (made m inner t a b)
   unfolding made
-  tidy-made t a b v h k small =
+  tidy_made t a b v h k small =
       let s = t.store in
       let x = listed_at t a v h in
       let y = listed_at t b v k in
@@ -127,36 +127,36 @@ module _ (m : Bool) (f : ℕ) (inner : Merge) (serves : Serves m f inner) (tidy 
       (λ q. stay (a + b) t t refl)
       (λ q. tidy_then Node ℕ (a + b) (a + b) (a + b) t _ _ (walk inner t (node_at s a) (node_at s b)) interned (omega arith) (omega arith)
       (walk_after m f inner serves a b (omega arith) t (node_at s a) (node_at s b) 0 0 v x y)
-      (tidy-walk a b (omega arith) t (node_at s a) (node_at s b) 0 0 v x y)
+      (tidy_walk a b (omega arith) t (node_at s a) (node_at s b) 0 0 v x y)
       (λ n u z _. tidy_interned (a + b) n u))
 
-  tidy-new : (t : State) (a b : ℕ) → Good t → a < length t.store → b < length t.store → a + b ≤ f → t.count < most_merges
+  tidy_new : (t : State) (a b : ℕ) → Good t → a < length t.store → b < length t.store → a + b ≤ f → t.count < most_merges
       → recall m (min a b) (max a b) t.kept ≡ nowhere → Tidy ℕ (suc (a + b)) t (and_then ℕ ℕ (made m inner (begins t) a b) (completed m a b))
   unfolding begins
-  tidy-new t a b v h k small less missed =
+  tidy_new t a b v h k small less missed =
       let one = begins_good t v less in
       tidy_on ℕ 0 (suc (a + b)) (suc (a + b)) t (begins t) (and_then ℕ ℕ (made m inner (begins t) a b) (completed m a b))
       (omega arith) (omega arith) (stay 0 t (begins t) refl)
       (tidy_then ℕ ℕ (a + b) (suc (a + b)) (suc (a + b)) (begins t) _ _ (made m inner (begins t) a b) (completed m a b) (omega arith) (omega arith)
       (made_after m f inner serves (begins t) a b one.good h k small)
-      (tidy-made (begins t) a b one.good h k small)
+      (tidy_made (begins t) a b one.good h k small)
       (λ c u z kept. tidy_completed m a b c u (kept.same m (min a b) (max a b) (omega arith) ∙ missed)))
 
-  tidy-step : TidyUpTo (suc f) (step m inner)
+  tidy_step : TidyUpTo (suc f) (step m inner)
   unfolding step
-  tidy-step t a b v h k small =
+  tidy_step t a b v h k small =
       test (Tidy ℕ (suc (a + b)) t) (eqb a b) _ _
       (λ q. stay (suc (a + b)) t t refl)
       (λ q. found (Tidy ℕ (suc (a + b)) t) (recall m (min a b) (max a b) t.kept) _ _
       (λ c e. stay (suc (a + b)) t t refl)
       (λ e. test (Tidy ℕ (suc (a + b)) t) (ltb t.count most_merges) _ _
-      (λ l. tidy-new t a b v h k (omega arith) (ltb-true t.count most_merges l) e)
+      (λ l. tidy_new t a b v h k (omega arith) (ltb-true t.count most_merges l) e)
       (λ l. tt)))
 
 deep_tidy : (m : Bool) (f : ℕ) → TidyUpTo f (deep m f)
 unfolding deep
 deep_tidy m zero = λ t a b v h k small. absurd (omega arith)
-deep_tidy m (suc f) = tidy-step m f (deep m f) (deep_serves m f) (deep_tidy m f)
+deep_tidy m (suc f) = tidy_step m f (deep m f) (deep_serves m f) (deep_tidy m f)
 
 pub counted_tidy : (m : Bool) (t : State) (a b : ℕ) → Good t → a < length t.store → b < length t.store
     → Tidy ℕ (suc (a + b)) t (counted m t a b)

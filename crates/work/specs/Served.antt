@@ -12,7 +12,7 @@ use Rattle.arena.specs.Soundness.{Sound}
 use Rattle.arena.specs.Trees.{node_sound, tree_node}
 use Rattle.arena.specs.Place.{intern, merge_s}
 use Rattle.arena.specs.Placed.{Grew, grew_refl, intern_grew}
-use Rattle.arena.specs.Steps.{merge_n, merge-holds, merge-same, merge-nodes, merge-root-left, merge-root-right}
+use Rattle.arena.specs.Steps.{merge_n, merge_holds, merge_same, merge_nodes, merge_root_left, merge_root_right}
 use Rattle.encoding.specs.Decide.{fits}
 use Rattle.encoding.specs.Decide.Laws.{fits_true, true_fits}
 use Rattle.work.specs.Counted.{most_merges, State, and_then, recall, completed, interned, Merge, walk, made, begins, step, deep}
@@ -43,7 +43,7 @@ interned_after n t v w =
 swallowed : (m : Bool) (s : Store) → Sound s → (a b : ℕ) → a < length s → b < length s → (m && (eqb a 0 || eqb b 0)) ≡ true → merge_s m s a b ≡ (0, s)
 swallowed false s w a b h k e = absurd (false≢true e)
 swallowed true s w a b h k e =
-    either (eqb a 0) (eqb b 0) e (λ q. merge-root-left s w a b h k (eqb-true a 0 q)) (λ q. merge-root-right s w a b h k (eqb-true b 0 q))
+    either (eqb a 0) (eqb b 0) e (λ q. merge_root_left s w a b h k (eqb-true a 0 q)) (λ q. merge_root_right s w a b h k (eqb-true b 0 q))
 
 unswallowed : (m : Bool) (a b : ℕ) → (m && (eqb a 0 || eqb b 0)) ≡ false → m ≡ true → (0 < a) × (0 < b)
 unswallowed false a b e q = absurd (false≢true q)
@@ -68,8 +68,8 @@ module _ (m : Bool) (f : ℕ) (inner : Merge) (serves : Serves m f inner) where
       test (After ℕ t (weight (tree s a)) (merge_s m s a b)) (m && (eqb a 0 || eqb b 0)) _ _
       (λ q. and_stay ℕ t _ _ 0 v (swallowed m s v.sound a b h k q))
       (λ q.
-      let nodes : merge_s m s a b ≡ intern X.1 X.0 = merge-nodes m s v.sound a b h k (unswallowed m a b q) in
-      let held : Sound (intern X.1 X.0).1 = rw nodes at (merge-holds m s v.sound a b h k).sound in
+      let nodes : merge_s m s a b ≡ intern X.1 X.0 = merge_nodes m s v.sound a b h k (unswallowed m a b q) in
+      let held : Sound (intern X.1 X.0).1 = rw nodes at (merge_holds m s v.sound a b h k).sound in
       rw (nodes, tree_node s v.sound a h)
       (and_then_lem Node ℕ t (weight (tree_of (tree s) N)) 0 _ X (intern X.1 X.0) (walk inner t N K) interned
       (omega arith) (intern_grew X.1 X.0)
@@ -89,10 +89,10 @@ begins_good t v h = record {
 }
 
 module _ (m : Bool) (f : ℕ) (inner : Merge) (serves : Serves m f inner) where
-  new-after : (t : State) (a b : ℕ) → Good t → a < length t.store → b < length t.store → a + b ≤ f → t.count < most_merges
+  new_after : (t : State) (a b : ℕ) → Good t → a < length t.store → b < length t.store → a + b ≤ f → t.count < most_merges
       → After ℕ t (suc (weight (tree t.store a))) (merge_s m t.store a b) (and_then ℕ ℕ (made m inner (begins t) a b) (completed m a b))
   unfolding begins
-  new-after t a b v h k small less =
+  new_after t a b v h k small less =
       let s = t.store in
       let w = weight (tree s a) in
       let X = merge_s m s a b in
@@ -102,20 +102,20 @@ module _ (m : Bool) (f : ℕ) (inner : Merge) (serves : Serves m f inner) where
       (made_after m f inner serves (begins t) a b one.good h k small)
       (λ c u q. completed_after m a b c u q.good (answer_right m s u.store v.sound a b c h k q.is) X q.is))
 
-  pub step-serves : Serves m (suc f) (step m inner)
+  pub step_serves : Serves m (suc f) (step m inner)
   unfolding step
-  step-serves t a b v h k small =
+  step_serves t a b v h k small =
       let s = t.store in
       let P = After ℕ t (suc (weight (tree s a))) (merge_s m s a b) in
       test P (eqb a b) _ _
-      (λ q. and_stay ℕ t _ _ a v (merge-same m s v.sound a b h k (eqb-true a b q)))
+      (λ q. and_stay ℕ t _ _ a v (merge_same m s v.sound a b h k (eqb-true a b q)))
       (λ q. found P (recall m (min a b) (max a b) t.kept) _ _
       (λ c e. and_stay ℕ t _ _ c v (hit m s v.sound a b t.kept c h k v.right e))
       (λ e. test P (ltb t.count most_merges) _ _
-      (λ l. new-after t a b v h k (omega arith) (ltb-true t.count most_merges l))
+      (λ l. new_after t a b v h k (omega arith) (ltb-true t.count most_merges l))
       (λ l. let z : most_merges ≤ t.count = ltb-false t.count most_merges l in inr (refl, omega arith))))
 
 pub deep_serves : (m : Bool) (f : ℕ) → Serves m f (deep m f)
 unfolding deep
 deep_serves m zero = λ t a b v h k small. absurd (omega arith)
-deep_serves m (suc f) = step-serves m f (deep m f) (deep_serves m f)
+deep_serves m (suc f) = step_serves m f (deep m f) (deep_serves m f)

@@ -10,10 +10,10 @@ use Rattle.arena.specs.Trees.{rise_le}
 use Rattle.arena.specs.Place.{merge_s}
 use Rattle.arena.specs.Place.Laws.{ahead}
 use Rattle.arena.specs.Placed.{Grew, grew_refl, grew_length, grew_node, place_e_grew}
-use Rattle.arena.specs.Steps.{merge_n, entries-end-left, entries-end-right, entries-dollars}
-use Rattle.arena.specs.Steps.{entries-less, entries-greater, entries-equal, entries-push-dollar, entries-dollar-push}
+use Rattle.arena.specs.Steps.{merge_n, entries_end_left, entries_end_right, entries_dollars}
+use Rattle.arena.specs.Steps.{entries_less, entries_greater, entries_equal, entries_push_dollar, entries_dollar_push}
 use Rattle.work.specs.Counted.{State, Merge, walk}
-use Rattle.work.specs.Counted.Laws.{walk-less, walk-greater, walk-equal}
+use Rattle.work.specs.Counted.Laws.{walk_less, walk_greater, walk_equal}
 use Rattle.work.specs.After.{Good, After, and_then_lem, and_before, and_stay}
 
 -- the most merges that a set can need as the left side, itself not counted: one for each entry at each depth
@@ -53,15 +53,15 @@ module _ (m : Bool) (f : ℕ) (inner : Merge) (serves : Serves m f inner) (a b :
   Walks t n k = After Node t (weight (tree_of (tree t.store) n)) (merge_n m t.store n k) (walk inner t n k)
 
   -- a state on both sides: the inner merge, and then the rest
-  walk-both : (t : State) (r p : ℕ) (n : Node) (q o : ℕ) (k : Node) (lo lo' : ℕ) → r ≡ q → Good t
+  walk_both : (t : State) (r p : ℕ) (n : Node) (q o : ℕ) (k : Node) (lo lo' : ℕ) → r ≡ q → Good t
       → Listed t a lo (push r p n) → Listed t b lo' (push q o k)
       → ((u : State) → Good u → Grew t.store u.store → Walks u n k)
       → Walks t (push r p n) (push q o k)
   unfolding tree_of weight
-  walk-both t r p n q o k lo lo' e v x y rest =
+  walk_both t r p n q o k lo lo' e v x y rest =
       let s = t.store in
       let C = merge_s m s p o in
-      rw (walk-equal inner t r p n q o k e, entries-equal m s v.sound r p n q o k lo lo' (listed_rise t a lo _ x) (listed_rise t b lo' _ y) e)
+      rw (walk_equal inner t r p n q o k e, entries_equal m s v.sound r p n q o k lo lo' (listed_rise t a lo _ x) (listed_rise t b lo' _ y) e)
       (and_then_lem ℕ Node t (suc (weight (tree s p))) (weight (tree_of (tree s) n)) _ C (ahead r C.0 (merge_n m C.1 n k)) (inner t p o) _
       (omega arith) (merge_n_grew m C.1 n k)
       (serves t p o v (omega (arith, x.rise.1, x.known)) (omega (arith, y.rise.1, y.known)) (omega (arith, x.rise.1, y.rise.1)))
@@ -73,26 +73,26 @@ module _ (m : Bool) (f : ℕ) (inner : Merge) (serves : Serves m f inner) (a b :
 
   pub walk_after : (t : State) (n k : Node) (lo lo' : ℕ) → Good t → Listed t a lo n → Listed t b lo' k → Walks t n k
   unfolding walk tree_of weight
-  walk_after t end k lo lo' v x y = and_stay Node t _ _ k v (entries-end-left m t.store v.sound lo' k (listed_rise t b lo' k y))
-  walk_after t dollar end lo lo' v x y = and_stay Node t _ _ dollar v (entries-end-right m t.store v.sound lo dollar tt)
-  walk_after t dollar dollar lo lo' v x y = and_stay Node t _ _ dollar v (entries-dollars m t.store v.sound)
+  walk_after t end k lo lo' v x y = and_stay Node t _ _ k v (entries_end_left m t.store v.sound lo' k (listed_rise t b lo' k y))
+  walk_after t dollar end lo lo' v x y = and_stay Node t _ _ dollar v (entries_end_right m t.store v.sound lo dollar tt)
+  walk_after t dollar dollar lo lo' v x y = and_stay Node t _ _ dollar v (entries_dollars m t.store v.sound)
   walk_after t dollar (push q o k) lo lo' v x y =
-      rw (entries-dollar-push m t.store v.sound q o k lo' (listed_rise t b lo' _ y))
+      rw (entries_dollar_push m t.store v.sound q o k lo' (listed_rise t b lo' _ y))
       (and_before t q o 0 0 _ _ (omega arith) (walk_after t dollar k lo (suc q) v x (listed_on t b lo' q o k y)))
   walk_after t (push r p n) end lo lo' v x y =
-      and_stay Node t _ _ (push r p n) v (entries-end-right m t.store v.sound lo (push r p n) (listed_rise t a lo _ x))
+      and_stay Node t _ _ (push r p n) v (entries_end_right m t.store v.sound lo (push r p n) (listed_rise t a lo _ x))
   walk_after t (push r p n) dollar lo lo' v x y =
-      rw (entries-push-dollar m t.store v.sound r p n lo (listed_rise t a lo _ x))
+      rw (entries_push_dollar m t.store v.sound r p n lo (listed_rise t a lo _ x))
       (and_before t r p (weight (tree_of (tree t.store) n)) _ _ _ (omega arith) (walk_after t n dollar (suc r) lo' v (listed_on t a lo r p n x) y))
   walk_after t (push r p n) (push q o k) lo lo' v x y =
       let rx = listed_rise t a lo (push r p n) x in
       let ry = listed_rise t b lo' (push q o k) y in
       three r q
-      (λ h. rw (walk-less inner t r p n q o k h, entries-less m t.store v.sound r p n q o k lo lo' rx ry h)
+      (λ h. rw (walk_less inner t r p n q o k h, entries_less m t.store v.sound r p n q o k lo lo' rx ry h)
       (and_before t r p (weight (tree_of (tree t.store) n)) _ _ _ (omega arith)
       (walk_after t n (push q o k) (suc r) lo' v (listed_on t a lo r p n x) y)))
-      (λ h. walk-both t r p n q o k lo lo' h v x y
+      (λ h. walk_both t r p n q o k lo lo' h v x y
       (λ u w g. walk_after u n k (suc r) (suc q) w (listed_next t u a lo r p n g x) (listed_next t u b lo' q o k g y)))
-      (λ h. rw (walk-greater inner t r p n q o k h, entries-greater m t.store v.sound r p n q o k lo lo' rx ry h)
+      (λ h. rw (walk_greater inner t r p n q o k h, entries_greater m t.store v.sound r p n q o k lo lo' rx ry h)
       (and_before t q o (weight (tree_of (tree t.store) (push r p n))) _ _ _ (omega arith)
       (walk_after t (push r p n) k lo (suc q) v x (listed_on t b lo' q o k y))))

@@ -25,23 +25,23 @@ same_entries n m f g v u e h i = rw (e, h, i)
 
 -- a refusal's struct
 module _ (f : Refusal) where
-  pub refused-answer : (a : Answer) → a.refusal ≡ number f → a.value ≡ 0 → a ≡ answer_of (refused (number f))
+  pub refused_answer : (a : Answer) → a.refusal ≡ number f → a.value ≡ 0 → a ≡ answer_of (refused (number f))
   unfolding entry_of
-  refused-answer a n v = same_answers a.refusal (number f) a.value 0 n v
+  refused_answer a n v = same_answers a.refusal (number f) a.value 0 n v
 
-  pub refused-entry : (a : EntryAnswer) → a.refusal ≡ number f → a.found ≡ 0 → a.value ≡ 0 → a ≡ entry_of (refused (number f))
+  pub refused_entry : (a : EntryAnswer) → a.refusal ≡ number f → a.found ≡ 0 → a.value ≡ 0 → a ≡ entry_of (refused (number f))
   unfolding entry_of
-  refused-entry a n e v = same_entries a.refusal (number f) a.found 0 a.value 0 n e v
+  refused_entry a n e v = same_entries a.refusal (number f) a.found 0 a.value 0 n e v
 
 -- the same of a call on a set's subsets
 module _ (f : Refusal) where
-  pub refused-verdict-answer : (a : Answer) → a.refusal ≡ number f → a.value ≡ 0 → a ≡ verdict_answer_of (notSaid (number f))
+  pub refused_verdict_answer : (a : Answer) → a.refusal ≡ number f → a.value ≡ 0 → a ≡ verdict_answer_of (notSaid (number f))
   unfolding alt_answer_of
-  refused-verdict-answer a n v = same_answers a.refusal (number f) a.value 0 n v
+  refused_verdict_answer a n v = same_answers a.refusal (number f) a.value 0 n v
 
-  pub refused-alt-answer : (a : EntryAnswer) → a.refusal ≡ number f → a.found ≡ 0 → a.value ≡ 0 → a ≡ alt_answer_of (notSaid (number f))
+  pub refused_alt_answer : (a : EntryAnswer) → a.refusal ≡ number f → a.found ≡ 0 → a.value ≡ 0 → a ≡ alt_answer_of (notSaid (number f))
   unfolding alt_answer_of
-  refused-alt-answer a n e v = same_entries a.refusal (number f) a.found 0 a.value 0 n e v
+  refused_alt_answer a n e v = same_entries a.refusal (number f) a.found 0 a.value 0 n e v
 
 -- an alternative, or none
 pub one_answers : (x : Alt) (f v : ℕ) → f ≡ (alt_answer_of (alternative x)).found → v ≡ (alt_answer_of (alternative x)).value

@@ -5,7 +5,7 @@ use Rattle.arena.specs.Store.{Node, end, dollar, push, Store, node_at, at}
 use Rattle.arena.specs.Soundness.{Rise, Full, Sound}
 use Rattle.arena.specs.Trees.{node_sound}
 use Rattle.arena.specs.Place.{listed, intern}
-use Rattle.arena.specs.Placed.{intern-self}
+use Rattle.arena.specs.Placed.{intern_self}
 use Rattle.arena.specs.Kinds.{size}
 use Rattle.arena.specs.Room.{room}
 
@@ -20,12 +20,12 @@ root_node s w h = go (node_at s 0) (node_sound s w 0 h)
     go (push r p n) v = absurd (omega arith)
 
 module _ (s : Store) (w : Sound s) (h : 0 < length s) where
-  pub intern-dollar : intern s dollar ≡ (0, s)
-  intern-dollar = rw (root_node s w h) at (intern-self s w 0 h)
+  pub intern_dollar : intern s dollar ≡ (0, s)
+  intern_dollar = rw (root_node s w h) at (intern_self s w 0 h)
 
-  pub intern-end : intern s end ≡ (0, s)
+  pub intern_end : intern s end ≡ (0, s)
   unfolding intern listed
-  intern-end = intern-dollar
+  intern_end = intern_dollar
 
 -- ---- two or more: an array, whose entries are all in the pool
 

@@ -8,9 +8,9 @@ use Rattle.stacks.specs.Merge.{merge_t}
 use Rattle.stacks.specs.Algebra.{canon_merge, some_merge}
 use Rattle.arena.specs.Store.{Node, Store, tree, node_at, nowhere, find}
 use Rattle.arena.specs.Soundness.{Full, Sound}
-use Rattle.arena.specs.Trees.{find?, find_at, find_none, node_rise, tree-new, tree_node, tree_canon, tree_inj, tree_of_inj}
+use Rattle.arena.specs.Trees.{find?, find_at, find_none, node_rise, tree_new, tree_node, tree_canon, tree_inj, tree_of_inj}
 use Rattle.arena.specs.Place.{intern, place_e, place, merge_s}
-use Rattle.arena.specs.Placed.{HoldsE, intern-found, intern-made, intern_holds, place_e_holds, full_of}
+use Rattle.arena.specs.Placed.{HoldsE, intern_found, intern_made, intern_holds, place_e_holds, full_of}
 use Rattle.arena.specs.Numbering.{inner, parts, Standing, Joins, done, there, next}
 
 -- ---- a list of entries takes the next number unless a context stands for its set
@@ -21,8 +21,8 @@ intern_joins s n F w h =
     find? n s
     (λ c e. let k = find_at n s c e in
     let stands : tree s c ≡ F = tree_node s w.sound c k.0 ∙ rw k.1 w.is in
-    rw (intern-found n s full c e) (there (c, k.0, stands) done))
-    (λ e. rw (intern-made n s full e) (next n (missing e) (tree-new n s (length s) refl ∙ w.is) done))
+    rw (intern_found n s full c e) (there (c, k.0, stands) done))
+    (λ e. rw (intern_made n s full e) (next n (missing e) (tree_new n s (length s) refl ∙ w.is) done))
   where
     missing : find n s ≡ nowhere → Standing s F → ⊥
     missing e r =

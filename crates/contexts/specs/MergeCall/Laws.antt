@@ -13,7 +13,7 @@ use Rattle.arena.specs.Store.{Store}
 use Rattle.arena.specs.Room.{pool}
 use Rattle.arena.specs.Soundness.{Sound}
 use Rattle.arena.specs.Place.{merge_s}
-use Rattle.arena.specs.Steps.{merge-sides}
+use Rattle.arena.specs.Steps.{merge_sides}
 use Rattle.layout.specs.Layout.{count, used}
 use Rattle.layout.specs.Decode.{store_of}
 use Rattle.layout.specs.Encode.{words_of}
@@ -23,16 +23,16 @@ use Rattle.encoding.specs.Decide.Laws.{true_fits, fits_false}
 use Rattle.encoding.specs.Cut.{cut, cut_back}
 use Rattle.index.specs.Grow.{index_frame}
 use Rattle.work.specs.Counted.{Outcome, done, refused as over, State, standing, counted, counting, too_much, count_of}
-use Rattle.work.specs.Theorems.{answer-is, answer-fits, refusal_is, sides_exchanged}
+use Rattle.work.specs.Theorems.{answer_is, answer_fits, refusal_is, sides_exchanged}
 use Rattle.cache.specs.Cache.{Emptied, kept_of, merges_counted}
-use Rattle.store.specs.Admit.{Admits, cleared, known-goes, unknown}
+use Rattle.store.specs.Admit.{Admits, cleared, known_goes, unknown}
 use Rattle.store.specs.declared.inner.admit.Admitted.{Admitted}
 use Rattle.store.specs.declared.inner.admit.Admitted.TheVariants.{Ready as ready, Refused}
 use Rattle.store.specs.Checks.{unless}
 use Rattle.store.specs.Calls.{refused, context, Left, leaves, leaves_after, zeros, kept, refusal, too_much_work, no_room, gives_after}
-use Rattle.store.specs.Nested.{if_known, checked, checked_nested, both-known-nested}
+use Rattle.store.specs.Nested.{if_known, checked, checked_nested, both_known_nested}
 use Rattle.interning.specs.Interned.{More}
-use Rattle.interning.specs.Live.{Live, live-count, live-used, ready_live}
+use Rattle.interning.specs.Live.{Live, live_count, live_used, ready_live}
 use Rattle.merging.specs.Ends.{ends_most}
 use Rattle.merging.specs.Standing.{state_of, Mergeable, Reached, Stuck}
 use Rattle.contexts.specs.MergeCall.{merge_checks, merge_call}
@@ -42,17 +42,17 @@ unfoldable pub worked : List ℕ → Outcome ℕ → ℕ × Store → Left
 worked w o x = elim (too_much o) [ true ↦ kept (refused 12) w | false ↦ elim (fits x.1) [ true ↦ gives_after (count_of o) (store_of w) x | false ↦ kept (refused 6) w ] ]
 
 module _ (w : List ℕ) (x : ℕ × Store) where
-  worked-made : (c : ℕ) (t : State) → fits x.1 ≡ true → worked w (done c t) x ≡ gives_after t.count (store_of w) x
+  worked_made : (c : ℕ) (t : State) → fits x.1 ≡ true → worked w (done c t) x ≡ gives_after t.count (store_of w) x
   unfolding worked too_much count_of
-  worked-made c t f = rw (f, worked)
+  worked_made c t f = rw (f, worked)
 
-  worked-full : fits x.1 ≡ false → worked w (over 6) x ≡ kept (refused 6) w
+  worked_full : fits x.1 ≡ false → worked w (over 6) x ≡ kept (refused 6) w
   unfolding worked too_much
-  worked-full f = rw (f, worked)
+  worked_full f = rw (f, worked)
 
-  worked-over : worked w (over 12) x ≡ kept (refused 12) w
+  worked_over : worked w (over 12) x ≡ kept (refused 12) w
   unfolding worked too_much
-  worked-over = refl
+  worked_over = refl
 
 -- of known numbers in a sound store
 unfoldable pub merged_known : List ℕ → ℕ → ℕ → Bool → Left
@@ -73,13 +73,13 @@ merge_nested w z a b m =
     let x = merge_s m (store_of w) a b in
     let o = counting m (store_of w) a b in
     checked_nested w z _ (gives_after (count_of o) (store_of w) x) ∙
-    ap (checked w z) (both-known-nested w z _ (gives_after (count_of o) (store_of w) x) a b ∙ ap (λ (y : Left). if_known w a (if_known w b y)) (last_two w z o x))
+    ap (checked w z) (both_known_nested w z _ (gives_after (count_of o) (store_of w) x) a b ∙ ap (λ (y : Left). if_known w a (if_known w b y)) (last_two w z o x))
 
 module _ (m : Bool) (w z : List ℕ) (a b : ℕ) (v : Live w z) (ha : a < count w) (hb : b < count w) (y : List ℕ) (ey : Emptied z y) where
   -- with the cache cleared the cycle can begin, on an empty stack
   pub begin : Mergeable w y a b 0
   begin =
-      let c = live-count v in
+      let c = live_count v in
       record {
         live = record {
           good = v.good;
@@ -103,31 +103,31 @@ module _ (m : Bool) (w z : List ℕ) (a b : ℕ) (v : Live w z) (ha : a < count 
   x = merge_s m (store_of w) a b
 
   la : a < length (store_of w)
-  la = rw (live-count v) at ha
+  la = rw (live_count v) at ha
 
   lb : b < length (store_of w)
-  lb = rw (live-count v) at hb
+  lb = rw (live_count v) at hb
 
   -- the merge is made
-  pub merge-made : (c : ℕ) (w' u : List ℕ) → Reached y 0 (counted m (state_of w y) a b) c w' u → (n k : ℕ) → n ≡ merges_counted u
+  pub merge_made : (c : ℕ) (w' u : List ℕ) → Reached y 0 (counted m (state_of w y) a b) c w' u → (n k : ℕ) → n ≡ merges_counted u
       → More w k w' → (q : List ℕ) → q ≡ replicate (length u) 0 → leaves_after n k (context c) w' q ≡ merged_known w a b m
   unfolding merged_known
-  merge-made c w' u g n k en more q eq =
+  merge_made c w' u g n k en more q eq =
       let e : counting m (store_of w) a b ≡ done c (state_of w' u) = sym from_nothing ∙ g.is in
-      let is : x ≡ (c, store_of w') = answer-is m (store_of w) a b v.good.sound v.good.fits la lb c (state_of w' u) e in
-      let f : fits x.1 ≡ true = true_fits x.1 (answer-fits m (store_of w) a b v.good.sound v.good.fits la lb c (state_of w' u) e) in
+      let is : x ≡ (c, store_of w') = answer_is m (store_of w) a b v.good.sound v.good.fits la lb c (state_of w' u) e in
+      let f : fits x.1 ≡ true = true_fits x.1 (answer_fits m (store_of w) a b v.good.sound v.good.fits la lb c (state_of w' u) e) in
       let figure : k ≡ length (store_of w') - length (store_of w) = omega (arith, more) in
       let made : leaves_after n k (context c) w' q ≡ gives_after (merges_counted u) (store_of w) (c, store_of w') =
       (rw (en, figure, eq, cleared u g.live.index.sized)) ∙
       ap (λ (y : List ℕ). leaves_after (merges_counted u) (length (store_of w') - length (store_of w)) (context c) y zeros) g.live.words in
-      made ∙ ap (gives_after (merges_counted u) (store_of w)) (sym is) ∙ sym (ap (λ (o : Outcome ℕ). worked w o x) e ∙ worked-made w x c (state_of w' u) f)
+      made ∙ ap (gives_after (merges_counted u) (store_of w)) (sym is) ∙ sym (ap (λ (o : Outcome ℕ). worked w o x) e ∙ worked_made w x c (state_of w' u) f)
 
   -- refused, and what was made is taken out again
   module _ (f : Refusal) (w₁ u : List ℕ) (o : counted m (state_of w y) a b ≡ over (number f)) (s : Stuck w w₁ u) where
     back : (cr ur : ℕ) → cr ≡ count w → ur ≡ used w → cut w₁ cr ur ≡ w
     back cr ur ec eu =
-        let e : cr ≡ length (store_of w) = ec ∙ live-count v in
-        let f : ur ≡ pool (store_of w) = eu ∙ live-used v in
+        let e : cr ≡ length (store_of w) = ec ∙ live_count v in
+        let f : ur ≡ pool (store_of w) = eu ∙ live_used v in
         ap (λ (q : List ℕ). cut q cr ur) s.words ∙ cut_at (words_of (store_of w₁)) cr (length (store_of w)) ur (pool (store_of w)) e f ∙
         cut_back (store_of w) (store_of w₁) s.good v.good.some s.grew ∙ sym v.words
       where
@@ -139,35 +139,35 @@ module _ (m : Bool) (w z : List ℕ) (a b : ℕ) (v : Live w z) (ha : a < count 
     is_refused =
         let e : counting m (store_of w) a b ≡ over (number f) = sym from_nothing ∙ o in
         ⊎_elim
-        (λ h. ap (λ (n : ℕ). kept (refused n) w) h.0 ∙ sym (worked-full w x (fits_false x.1 h.1)) ∙ ap (λ (y : Outcome ℕ). worked w y x) (ap over (sym h.0) ∙ sym e))
-        (λ h. ap (λ (n : ℕ). kept (refused n) w) h.0 ∙ sym (worked-over w x) ∙ ap (λ (y : Outcome ℕ). worked w y x) (ap over (sym h.0) ∙ sym e))
+        (λ h. ap (λ (n : ℕ). kept (refused n) w) h.0 ∙ sym (worked_full w x (fits_false x.1 h.1)) ∙ ap (λ (y : Outcome ℕ). worked w y x) (ap over (sym h.0) ∙ sym e))
+        (λ h. ap (λ (n : ℕ). kept (refused n) w) h.0 ∙ sym (worked_over w x) ∙ ap (λ (y : Outcome ℕ). worked w y x) (ap over (sym h.0) ∙ sym e))
         (refusal_is m (store_of w) a b v.good.sound v.good.fits la lb (number f) e)
 
-    pub merge-refused : (cr ur : ℕ) → cr ≡ count w → ur ≡ used w → (w' q : List ℕ) → w' ≡ cut w₁ cr ur → q ≡ replicate (length u) 0
+    pub merge_refused : (cr ur : ℕ) → cr ≡ count w → ur ≡ used w → (w' q : List ℕ) → w' ≡ cut w₁ cr ur → q ≡ replicate (length u) 0
         → leaves (refused (number f)) w' q ≡ merged_known w a b m
-    merge-refused cr ur ec eu w' q ew eq = rw (ew, back cr ur ec eu, eq, cleared u s.sized) is_refused
+    merge_refused cr ur ec eu w' q ew eq = rw (ew, back cr ur ec eu, eq, cleared u s.sized) is_refused
 
 -- ---- the call, after its first checks
 
 module _ (w z u : List ℕ) (a b : ℕ) (m : Bool) (r : Admitted) (v : Admits w z a r u) where
-  pub call-refused : (f : Refusal) → r ≡ Refused f → leaves (refused (number f)) w u ≡ merge_call w z a b m
-  call-refused f e = sym (merge_nested w z a b m ∙ (rw e at v) (if_known w b (merged_known w a b m)))
+  pub call_refused : (f : Refusal) → r ≡ Refused f → leaves (refused (number f)) w u ≡ merge_call w z a b m
+  call_refused f e = sym (merge_nested w z a b m ∙ (rw e at v) (if_known w b (merged_known w a b m)))
 
   module _ (e : r ≡ ready) where
-    pub call-ready : Live w u × (a < count w)
-    call-ready = let o = rw e at v in (ready_live w u o.0, o.1)
+    pub call_ready : Live w u × (a < count w)
+    call_ready = let o = rw e at v in (ready_live w u o.0, o.1)
 
     goes : merge_call w z a b m ≡ if_known w b (merged_known w a b m)
     goes = merge_nested w z a b m ∙ (rw e at v).2 (if_known w b (merged_known w a b m))
 
-    pub call-unknown : count w ≤ b → (y : List ℕ) → y ≡ replicate (length u) 0 → leaves (refused 4) w y ≡ merge_call w z a b m
-    call-unknown h y ey = ap (leaves (refused 4) w) (ey ∙ cleared u call-ready.0.index.sized) ∙ sym (goes ∙ unknown w b _ h)
+    pub call_unknown : count w ≤ b → (y : List ℕ) → y ≡ replicate (length u) 0 → leaves (refused 4) w y ≡ merge_call w z a b m
+    call_unknown h y ey = ap (leaves (refused 4) w) (ey ∙ cleared u call_ready.0.index.sized) ∙ sym (goes ∙ unknown w b _ h)
 
-    pub call-merged : b < count w → (x : Left) → x ≡ merged_known w a b m → x ≡ merge_call w z a b m
-    call-merged h x q = q ∙ sym (goes ∙ known-goes w b _ h)
+    pub call_merged : b < count w → (x : Left) → x ≡ merged_known w a b m → x ≡ merge_call w z a b m
+    call_merged h x q = q ∙ sym (goes ∙ known_goes w b _ h)
 
 -- sides exchanged
 pub worked_sides : (w : List ℕ) (a b : ℕ) (m : Bool) → Sound (store_of w) → a < length (store_of w) → b < length (store_of w)
     → merged_known w a b m ≡ merged_known w b a m
 unfolding merged_known
-worked_sides w a b m v h k = rw (sides_exchanged m (store_of w) a b, merge-sides m (store_of w) v a b h k)
+worked_sides w a b m v h k = rw (sides_exchanged m (store_of w) a b, merge_sides m (store_of w) v a b h k)

@@ -12,49 +12,49 @@ use Rattle.format.specs.Format.{if_well, config_from, if_kind, payload_at, recor
 -- ---- a payload, by its kind
 
 module _ (s : List ℕ) (p e : ℕ) where
-  pub payload-singleton : payload_at s 1 p e ≡ found (singleton (u32_at s p) (u64_at s (p + 4))) e
+  pub payload_singleton : payload_at s 1 p e ≡ found (singleton (u32_at s p) (u64_at s (p + 4))) e
   unfolding payload_at
-  payload-singleton = refl
+  payload_singleton = refl
 
-  pub merge-mode : 1 < get_or s (p + 8) 0 → payload_at s 2 p e ≡ malformed
+  pub merge_mode : 1 < get_or s (p + 8) 0 → payload_at s 2 p e ≡ malformed
   unfolding payload_at
-  merge-mode h = rw (lt-leb (get_or s (p + 8) 0) 1 h)
+  merge_mode h = rw (lt-leb (get_or s (p + 8) 0) 1 h)
 
-  pub payload-merge : get_or s (p + 8) 0 ≤ 1 → payload_at s 2 p e ≡ found (merge (u32_at s p) (u32_at s (p + 4)) (eqb (get_or s (p + 8) 0) 1)) e
+  pub payload_merge : get_or s (p + 8) 0 ≤ 1 → payload_at s 2 p e ≡ found (merge (u32_at s p) (u32_at s (p + 4)) (eqb (get_or s (p + 8) 0) 1)) e
   unfolding payload_at
-  payload-merge h = rw (le-leb (get_or s (p + 8) 0) 1 h)
+  payload_merge h = rw (le-leb (get_or s (p + 8) 0) 1 h)
 
-  pub new-mode : 1 < get_or s p 0 → payload_at s 3 p e ≡ malformed
+  pub new_mode : 1 < get_or s p 0 → payload_at s 3 p e ≡ malformed
   unfolding payload_at
-  new-mode h = rw (lt-leb (get_or s p 0) 1 h)
+  new_mode h = rw (lt-leb (get_or s p 0) 1 h)
 
-  pub payload-new : get_or s p 0 ≤ 1 → payload_at s 3 p e ≡ found (new_set (eqb (get_or s p 0) 1)) e
+  pub payload_new : get_or s p 0 ≤ 1 → payload_at s 3 p e ≡ found (new_set (eqb (get_or s p 0) 1)) e
   unfolding payload_at
-  payload-new h = rw (le-leb (get_or s p 0) 1 h)
+  payload_new h = rw (le-leb (get_or s p 0) 1 h)
 
-  pub payload-add : payload_at s 4 p e ≡ found (add (config_from s p)) e
+  pub payload_add : payload_at s 4 p e ≡ found (add (config_from s p)) e
   unfolding payload_at
-  payload-add = refl
+  payload_add = refl
 
-  pub payload-stops : payload_at s 5 p e ≡ found (stops (words_at s p ((e - p) / 4))) e
+  pub payload_stops : payload_at s 5 p e ≡ found (stops (words_at s p ((e - p) / 4))) e
   unfolding payload_at
-  payload-stops = refl
+  payload_stops = refl
 
-  pub payload-verdict : payload_at s 6 p e ≡ found verdict e
+  pub payload_verdict : payload_at s 6 p e ≡ found verdict e
   unfolding payload_at
-  payload-verdict = refl
+  payload_verdict = refl
 
-  pub payload-show : payload_at s 7 p e ≡ found (show (u32_at s p)) e
+  pub payload_show : payload_at s 7 p e ≡ found (show (u32_at s p)) e
   unfolding payload_at
-  payload-show = refl
+  payload_show = refl
 
-  pub payload-close : payload_at s 8 p e ≡ found close e
+  pub payload_close : payload_at s 8 p e ≡ found close e
   unfolding payload_at
-  payload-close = refl
+  payload_close = refl
 
-  pub payload-why : payload_at s 9 p e ≡ found why e
+  pub payload_why : payload_at s 9 p e ≡ found why e
   unfolding payload_at
-  payload-why = refl
+  payload_why = refl
 
 -- none of the kinds
 pub payload_other : (s : List ℕ) (k p e : ℕ) → (k ≡ 1 → ⊥) → (k ≡ 2 → ⊥) → (k ≡ 7 → ⊥) → (k ≡ 3 → ⊥) → (k ≡ 4 → ⊥) → (k ≡ 5 → ⊥)
@@ -66,32 +66,32 @@ payload_other s k p e a b c d f g h i j =
 -- ---- a record, by its header
 
 module _ (s : List ℕ) (i n k : ℕ) where
-  pub record-short : length s < i + 4 + n → record_at s i n k ≡ malformed
+  pub record_short : length s < i + 4 + n → record_at s i n k ≡ malformed
   unfolding record_at
-  record-short h = rw (lt-leb (i + 4 + n) (length s) h)
+  record_short h = rw (lt-leb (i + 4 + n) (length s) h)
 
-  pub record-wrong : i + 4 + n ≤ length s → accepts (payload_of k) n ≡ false → record_at s i n k ≡ malformed
+  pub record_wrong : i + 4 + n ≤ length s → accepts (payload_of k) n ≡ false → record_at s i n k ≡ malformed
   unfolding record_at
-  record-wrong h e = rw (le-leb (i + 4 + n) (length s) h, e)
+  record_wrong h e = rw (le-leb (i + 4 + n) (length s) h, e)
 
-  pub record-right : i + 4 + n ≤ length s → accepts (payload_of k) n ≡ true → record_at s i n k ≡ payload_at s k (i + 4) (i + 4 + n)
+  pub record_right : i + 4 + n ≤ length s → accepts (payload_of k) n ≡ true → record_at s i n k ≡ payload_at s k (i + 4) (i + 4 + n)
   unfolding record_at
-  record-right h e = rw (le-leb (i + 4 + n) (length s) h, e)
+  record_right h e = rw (le-leb (i + 4 + n) (length s) h, e)
 
 -- ---- a place
 
 module _ (s : List ℕ) (i : ℕ) where
-  pub read-end : length s ≤ i → read_at s i ≡ ended
+  pub read_end : length s ≤ i → read_at s i ≡ ended
   unfolding read_at
-  read-end h = rw (le-ltb i (length s) h, read_at)
+  read_end h = rw (le-ltb i (length s) h, read_at)
 
   pub read_short : i < length s → length s < i + 4 → read_at s i ≡ malformed
   unfolding read_at
   read_short h l = rw (lt-ltb i (length s) h, read_at) (rw (lt-leb (i + 4) (length s) l))
 
-  pub read-header : i + 4 ≤ length s → read_at s i ≡ record_at s i (u16_at s i) (u16_at s (i + 2))
+  pub read_header : i + 4 ≤ length s → read_at s i ≡ record_at s i (u16_at s i) (u16_at s (i + 2))
   unfolding read_at
-  read-header h = rw (lt-ltb i (length s) (omega arith), read_at) (rw (le-leb (i + 4) (length s) h))
+  read_header h = rw (lt-ltb i (length s) (omega arith), read_at) (rw (le-leb (i + 4) (length s) h))
 
 -- ---- a record that was found ends within the script, past its start
 
@@ -139,7 +139,7 @@ unfolding read_at
 read_onward s i =
     below? i (length s)
     (λ a. rw (lt-ltb i (length s) a, read_at) (onward_well (Past s i) (leb (i + 4) (length s)) _ (λ _. record_onward s i (u16_at s i) (u16_at s (i + 2)))))
-    (λ a. rw (read-end s i a) tt)
+    (λ a. rw (read_end s i a) tt)
 
 pub read_forward : (s : List ℕ) (i : ℕ) (x : Record) (j : ℕ) → read_at s i ≡ found x j → (i < j) × (j ≤ length s)
 read_forward s i x j q = rw q at (read_onward s i)

@@ -57,35 +57,35 @@ unknown_kind k h = get_or-eq_default payloads none h
 -- ---- an entry says what its payload says
 
 module _ (n : ℕ) where
-  entry-says : (p : Payload) → small p ≡ true → accepts p n ≡ entry_accepts (entry p) n
+  entry_says : (p : Payload) → small p ≡ true → accepts p n ≡ entry_accepts (entry p) n
   unfolding accepts entry_accepts entry small
-  entry-says (exactly m) t =
+  entry_says (exactly m) t =
       let h : m < variable = ltb-true m variable t in
       sym (rw (lt-ltb m no_kind (omega arith), entry_accepts) (rw (ne_eqb m variable (λ e. omega arith))))
-  entry-says fours t = refl
-  entry-says none t = refl
+  entry_says fours t = refl
+  entry_says none t = refl
 
-  kind-says : (k : ℕ) → accepts (payload_of k) n ≡ entry_accepts (entry (payload_of k)) n
+  kind_says : (k : ℕ) → accepts (payload_of k) n ≡ entry_accepts (entry (payload_of k)) n
   unfolding small
-  kind-says k =
+  kind_says k =
       below? k 10
-      (λ h. entry-says (payload_of k) (table_small k h))
-      (λ h. entry-says (payload_of k) (ap small (unknown_kind k h)))
+      (λ h. entry_says (payload_of k) (table_small k h))
+      (λ h. entry_says (payload_of k) (ap small (unknown_kind k h)))
 
   -- the three ways out of the code that looks a kind up
   module _ (k e : ℕ) (q : e ≡ entry (payload_of k)) where
-    pub kind-unknown : no_kind ≤ e → accepts (payload_of k) n ≡ false
+    pub kind_unknown : no_kind ≤ e → accepts (payload_of k) n ≡ false
     unfolding entry_accepts
-    kind-unknown h = kind-says k ∙ ap (λ (x : ℕ). entry_accepts x n) (sym q) ∙ rw (le-ltb e no_kind h, entry_accepts)
+    kind_unknown h = kind_says k ∙ ap (λ (x : ℕ). entry_accepts x n) (sym q) ∙ rw (le-ltb e no_kind h, entry_accepts)
 
-    pub kind-variable : e ≡ variable → accepts (payload_of k) n ≡ eqb (n % 4) 0
+    pub kind_variable : e ≡ variable → accepts (payload_of k) n ≡ eqb (n % 4) 0
     unfolding entry_accepts
-    kind-variable h = kind-says k ∙ ap (λ (x : ℕ). entry_accepts x n) (sym q ∙ h)
+    kind_variable h = kind_says k ∙ ap (λ (x : ℕ). entry_accepts x n) (sym q ∙ h)
 
-    pub kind-fixed : e < no_kind → (e ≡ variable → ⊥) → accepts (payload_of k) n ≡ eqb n e
+    pub kind_fixed : e < no_kind → (e ≡ variable → ⊥) → accepts (payload_of k) n ≡ eqb n e
     unfolding entry_accepts
-    kind-fixed h v =
-        kind-says k ∙ ap (λ (x : ℕ). entry_accepts x n) (sym q) ∙ rw (lt-ltb e no_kind h, entry_accepts) (rw (ne_eqb e variable v))
+    kind_fixed h v =
+        kind_says k ∙ ap (λ (x : ℕ). entry_accepts x n) (sym q) ∙ rw (lt-ltb e no_kind h, entry_accepts) (rw (ne_eqb e variable v))
 
 -- ---- the lengths, kind by kind
 

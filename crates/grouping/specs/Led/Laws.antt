@@ -10,14 +10,14 @@ use Rattle.layout.specs.Layout.{scratch_words}
 use Rattle.sets.specs.Layout.{most_configs, config_at}
 use Rattle.sets.specs.Lists.{any}
 use Rattle.sets.specs.Words.{configs_in}
-use Rattle.sets.specs.Listed.{at-any, none_any}
-use Rattle.sets.specs.Chains.{last, last_none, Chained, linked, linked-length, linked-other, chain_empty, chain-add}
+use Rattle.sets.specs.Listed.{at_any, none_any}
+use Rattle.sets.specs.Chains.{last, last_none, Chained, linked, linked_length, linked_other, chain_empty, chain_add}
 use Rattle.setcheck.specs.Keys.{key_heads, key_links, key_bucket}
 use Rattle.groups.specs.Groups.{firsts}
 use Rattle.groups.specs.Firsts.{Likeness}
-use Rattle.groups.specs.Last.{firsts-new, firsts-old}
+use Rattle.groups.specs.Last.{firsts_new, firsts_old}
 use Rattle.grouping.specs.Alike.{alike_of, alike_at, alike_kind}
-use Rattle.grouping.specs.Leads.{Kin, FirstAlike, Next, lead-new, next-new, before, alike, lead-old, next_last, next-other, next-own}
+use Rattle.grouping.specs.Leads.{Kin, FirstAlike, Next, lead_new, next_new, before, alike, lead_old, next_last, next_other, next_own}
 use Rattle.grouping.specs.Led.{leaders_at, members_at, Lent, bucket_at, Led}
 use Rattle.grouping.specs.declared.inner.traits.Alike.{Alike}
 
@@ -45,19 +45,19 @@ module _ (v : List ℕ) (k : Alike) (n : ℕ) (z : List ℕ) (x : Led v k n z) (
   room : key_links + n < length z
   room = omega (arith, x.words.lent)
 
-  y-length : length y ≡ scratch_words
-  y-length = linked-length key_heads key_links n b z (omega arith) room small ∙ x.words.lent
+  y_length : length y ≡ scratch_words
+  y_length = linked_length key_heads key_links n b z (omega arith) room small ∙ x.words.lent
 
   -- what stands after the chains stays
-  y-after : (j : ℕ) → leaders_at ≤ j → get_or y j 0 ≡ get_or z j 0
-  y-after j l = linked-other key_heads key_links n b z (omega arith) room small j (omega arith) (omega arith)
+  y_after : (j : ℕ) → leaders_at ≤ j → get_or y j 0 ≡ get_or z j 0
+  y_after j l = linked_other key_heads key_links n b z (omega arith) room small j (omega arith) (omega arith)
 
   -- any scratch that has the chains, the first ones and the next ones
-  led-step : (u : List ℕ) → length u ≡ scratch_words → ((j : ℕ) → j < leaders_at → get_or u j 0 ≡ get_or y j 0)
+  led_step : (u : List ℕ) → length u ≡ scratch_words → ((j : ℕ) → j < leaders_at → get_or u j 0 ≡ get_or y j 0)
       → ((i : ℕ) → i < suc n → FirstAlike (alike_at v k) i (get_or u (leaders_at + i) 0)) → ((i : ℕ) → i < suc n → Next (alike_at v k) (suc n) i (get_or u (members_at + i) 0))
       → Led v k (suc n) u
-  led-step u l same f g =
-      let c : Chained (bucket_at v k) key_heads key_links (suc n) y = chain-add key_heads key_links n b z (omega arith) room small (bucket_at v k) (sym e) x.chains in
+  led_step u l same f g =
+      let c : Chained (bucket_at v k) key_heads key_links (suc n) y = chain_add key_heads key_links n b z (omega arith) room small (bucket_at v k) (sym e) x.chains in
       record {
         words = record { sized = x.words.sized; few = x.words.few; lent = l };
         chains = record { heads = λ a s. same (key_heads + a) (omega arith) ∙ c.heads a s; links = λ i s. same (key_links + i) (omega arith) ∙ c.links i s };
@@ -67,24 +67,24 @@ module _ (v : List ℕ) (k : Alike) (n : ℕ) (z : List ℕ) (x : Led v k n z) (
 
   -- ---- none before n is alike
 
-  abbrev newWords : List ℕ
-  newWords = set (set y (members_at + n) 0) (leaders_at + n) n
+  abbrev new_words : List ℕ
+  new_words = set (set y (members_at + n) 0) (leaders_at + n) n
 
   module _ (none : last (λ j. alike_at v k j n) n ≡ nowhere) where
-    new-other : (j : ℕ) → j ≢ members_at + n → j ≢ leaders_at + n → get_or newWords j 0 ≡ get_or y j 0
-    new-other j p q = rw (get_or-set_other, get_or-set_other)
+    new_other : (j : ℕ) → j ≢ members_at + n → j ≢ leaders_at + n → get_or new_words j 0 ≡ get_or y j 0
+    new_other j p q = rw (get_or-set_other, get_or-set_other)
 
-    pub led-new : Led v k (suc n) newWords
-    led-new =
-        led-step newWords (simp length-set (omega (arith, y-length))) (λ j l. new-other j (omega arith) (omega arith))
+    pub led_new : Led v k (suc n) new_words
+    led_new =
+        led_step new_words (simp length-set (omega (arith, y_length))) (λ j l. new_other j (omega arith) (omega arith))
         (λ i l. two i n
-        (λ q. rw (q, get_or-set_same (set y (members_at + n) 0) (leaders_at + n) n 0 (simp length-set (omega (arith, y-length)))) (lead-new (alike_at v k) (kin v k) n none))
-        (λ q. rw (new-other (leaders_at + i) (omega arith) (omega arith), y-after (leaders_at + i) (omega arith)) (x.leads i (omega arith))))
+        (λ q. rw (q, get_or-set_same (set y (members_at + n) 0) (leaders_at + n) n 0 (simp length-set (omega (arith, y_length)))) (lead_new (alike_at v k) (kin v k) n none))
+        (λ q. rw (new_other (leaders_at + i) (omega arith) (omega arith), y_after (leaders_at + i) (omega arith)) (x.leads i (omega arith))))
         (λ i l. two i n
-        (λ q. rw (q, get_or-set_other (set y (members_at + n) 0) (leaders_at + n) (members_at + n) n 0 (omega arith), get_or-set_same y (members_at + n) 0 0 (omega (arith, y-length)))
-        (next-own (alike_at v k) (kin v k) n))
-        (λ q. rw (new-other (members_at + i) (omega arith) (omega arith), y-after (members_at + i) (omega arith))
-        (next-new (alike_at v k) (kin v k) n none i (get_or z (members_at + i) 0) (omega arith) (x.nexts i (omega arith)))))
+        (λ q. rw (q, get_or-set_other (set y (members_at + n) 0) (leaders_at + n) (members_at + n) n 0 (omega arith), get_or-set_same y (members_at + n) 0 0 (omega (arith, y_length)))
+        (next_own (alike_at v k) (kin v k) n))
+        (λ q. rw (new_other (members_at + i) (omega arith) (omega arith), y_after (members_at + i) (omega arith))
+        (next_new (alike_at v k) (kin v k) n none i (get_or z (members_at + i) 0) (omega arith) (x.nexts i (omega arith)))))
 
   -- ---- the last before n that is alike is m
 
@@ -92,63 +92,63 @@ module _ (v : List ℕ) (k : Alike) (n : ℕ) (z : List ℕ) (x : Led v k n z) (
     abbrev marked : List ℕ
     marked = set y (members_at + n) 0
 
-    abbrev oldWords : List ℕ
-    oldWords = set (set marked (leaders_at + n) (get_or marked (leaders_at + m) 0)) (members_at + m) (n + 1)
+    abbrev old_words : List ℕ
+    old_words = set (set marked (leaders_at + n) (get_or marked (leaders_at + m) 0)) (members_at + m) (n + 1)
 
     less : m < n
     less = before (alike_at v k) (kin v k) n m found
 
-    old-other : (j : ℕ) → j ≢ members_at + n → j ≢ leaders_at + n → j ≢ members_at + m → get_or oldWords j 0 ≡ get_or y j 0
-    old-other j p q r = rw (get_or-set_other, get_or-set_other, get_or-set_other)
+    old_other : (j : ℕ) → j ≢ members_at + n → j ≢ leaders_at + n → j ≢ members_at + m → get_or old_words j 0 ≡ get_or y j 0
+    old_other j p q r = rw (get_or-set_other, get_or-set_other, get_or-set_other)
 
-    leader : get_or oldWords (leaders_at + n) 0 ≡ get_or z (leaders_at + m) 0
+    leader : get_or old_words (leaders_at + n) 0 ≡ get_or z (leaders_at + m) 0
     leader =
         get_or-set_other (set marked (leaders_at + n) (get_or marked (leaders_at + m) 0)) (members_at + m) (leaders_at + n) (n + 1) 0 (omega (arith, less))
-        ∙ get_or-set_same marked (leaders_at + n) (get_or marked (leaders_at + m) 0) 0 (simp length-set (omega (arith, y-length, less)))
+        ∙ get_or-set_same marked (leaders_at + n) (get_or marked (leaders_at + m) 0) 0 (simp length-set (omega (arith, y_length, less)))
         ∙ get_or-set_other y (members_at + n) (leaders_at + m) 0 0 (omega (arith, less))
-        ∙ y-after (leaders_at + m) (omega (arith, less))
+        ∙ y_after (leaders_at + m) (omega (arith, less))
 
-    last-member : get_or oldWords (members_at + m) 0 ≡ suc n
-    last-member =
-        get_or-set_same (set marked (leaders_at + n) (get_or marked (leaders_at + m) 0)) (members_at + m) (n + 1) 0 (simp length-set (omega (arith, y-length, less))) ∙ add-one n
+    last_member : get_or old_words (members_at + m) 0 ≡ suc n
+    last_member =
+        get_or-set_same (set marked (leaders_at + n) (get_or marked (leaders_at + m) 0)) (members_at + m) (n + 1) 0 (simp length-set (omega (arith, y_length, less))) ∙ add-one n
 
-    own-member : get_or oldWords (members_at + n) 0 ≡ 0
-    own-member =
+    own_member : get_or old_words (members_at + n) 0 ≡ 0
+    own_member =
         get_or-set_other (set marked (leaders_at + n) (get_or marked (leaders_at + m) 0)) (members_at + m) (members_at + n) (n + 1) 0 (omega (arith, less))
         ∙ get_or-set_other marked (leaders_at + n) (members_at + n) (get_or marked (leaders_at + m) 0) 0 (omega (arith, less))
-        ∙ get_or-set_same y (members_at + n) 0 0 (omega (arith, y-length, less))
+        ∙ get_or-set_same y (members_at + n) 0 0 (omega (arith, y_length, less))
 
-    pub led-old : Led v k (suc n) oldWords
-    led-old =
-        led-step oldWords (simp length-set (omega (arith, y-length, less))) (λ j l. old-other j (omega (arith, less)) (omega (arith, less)) (omega (arith, less)))
+    pub led_old : Led v k (suc n) old_words
+    led_old =
+        led_step old_words (simp length-set (omega (arith, y_length, less))) (λ j l. old_other j (omega (arith, less)) (omega (arith, less)) (omega (arith, less)))
         (λ i l. two i n
-        (λ q. rw (q, leader) (lead-old (alike_at v k) (kin v k) n m found (get_or z (leaders_at + m) 0) (x.leads m less)))
-        (λ q. rw (old-other (leaders_at + i) (omega (arith, less)) (omega (arith, less)) (omega (arith, less)), y-after (leaders_at + i) (omega (arith, less))) (x.leads i (omega (arith, less)))))
+        (λ q. rw (q, leader) (lead_old (alike_at v k) (kin v k) n m found (get_or z (leaders_at + m) 0) (x.leads m less)))
+        (λ q. rw (old_other (leaders_at + i) (omega (arith, less)) (omega (arith, less)) (omega (arith, less)), y_after (leaders_at + i) (omega (arith, less))) (x.leads i (omega (arith, less)))))
         (λ i l. two i n
-        (λ q. rw (q, own-member) (next-own (alike_at v k) (kin v k) n))
+        (λ q. rw (q, own_member) (next_own (alike_at v k) (kin v k) n))
         (λ q. two i m
-        (λ r. rw (r, last-member) (next_last (alike_at v k) (kin v k) n m found))
-        (λ r. rw (old-other (members_at + i) (omega (arith, less)) (omega (arith, less)) (omega (arith, less)), y-after (members_at + i) (omega (arith, less)))
-        (next-other (alike_at v k) (kin v k) n m found i (get_or z (members_at + i) 0) (omega (arith, less)) r (x.nexts i (omega (arith, less)))))))
+        (λ r. rw (r, last_member) (next_last (alike_at v k) (kin v k) n m found))
+        (λ r. rw (old_other (members_at + i) (omega (arith, less)) (omega (arith, less)) (omega (arith, less)), y_after (members_at + i) (omega (arith, less)))
+        (next_other (alike_at v k) (kin v k) n m found i (get_or z (members_at + i) 0) (omega (arith, less)) r (x.nexts i (omega (arith, less)))))))
 
 -- ---- how many first ones more
 
 module _ (v : List ℕ) (k : Alike) (n : ℕ) where
-  abbrev countAt : ℕ → ℕ
-  countAt i = length (firsts (alike_of k) (configs_in v i))
+  abbrev count_at : ℕ → ℕ
+  count_at i = length (firsts (alike_of k) (configs_in v i))
 
-  pub count-new : last (λ j. alike_at v k j n) n ≡ nowhere → countAt (suc n) ≡ countAt n + 1
+  pub count_new : last (λ j. alike_at v k j n) n ≡ nowhere → count_at (suc n) ≡ count_at n + 1
   unfolding configs_in
-  count-new e =
+  count_new e =
       let c = config_at v n in
-      ap length (firsts-new (alike_of k) c (configs_in v n) (none_any (λ d. alike_of k d c) v n (last_none (λ j. alike_at v k j n) n e)))
+      ap length (firsts_new (alike_of k) c (configs_in v n) (none_any (λ d. alike_of k d c) v n (last_none (λ j. alike_at v k j n) n e)))
       ∙ length-append (firsts (alike_of k) (configs_in v n)) (c ∷ [])
 
-  pub count-old : (m : ℕ) → last (λ j. alike_at v k j n) n ≡ at m → countAt (suc n) ≡ countAt n + 0
+  pub count_old : (m : ℕ) → last (λ j. alike_at v k j n) n ≡ at m → count_at (suc n) ≡ count_at n + 0
   unfolding configs_in
-  count-old m e =
+  count_old m e =
       let c = config_at v n in
       let t = alike_at v k in
-      let same : countAt (suc n) ≡ countAt n =
-      ap length (firsts-old (alike_of k) c (configs_in v n) (at-any (λ d. alike_of k d c) v n m (before t (kin v k) n m e) (alike t (kin v k) n m e))) in
+      let same : count_at (suc n) ≡ count_at n =
+      ap length (firsts_old (alike_of k) c (configs_in v n) (at_any (λ d. alike_of k d c) v n m (before t (kin v k) n m e) (alike t (kin v k) n m e))) in
       omega arith

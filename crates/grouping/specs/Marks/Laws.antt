@@ -4,7 +4,7 @@ use Rattle.std.proofs.Common.{sym, ap, ◌∙◌, subst, inl, inr, ⊎_elim, ari
 use Rattle.std.proofs.Math.Bool.{true, false}
 use Rattle.std.proofs.lemmas.Bool.{eqb-false, not-true}
 use Rattle.words.specs.Lent.{cleared_range}
-use Rattle.words.specs.Lent.Laws.{length-clearedRange, clearedRange-before, clearedRange-inside}
+use Rattle.words.specs.Lent.Laws.{length_cleared_range, cleared_range_before, cleared_range_inside}
 use Rattle.cases.specs.Numbers.{two}
 use Rattle.layout.specs.Layout.{scratch_words}
 use Rattle.sets.specs.Config.{Config}
@@ -12,7 +12,7 @@ use Rattle.sets.specs.Layout.{most_configs, config_at, config_count}
 use Rattle.sets.specs.Lists.{any, all}
 use Rattle.cases.specs.Bools.{bool?, never_both, is_false, both_true, and_left, and_right}
 use Rattle.sets.specs.Words.{configs_in}
-use Rattle.sets.specs.Listed.{any_at, at-any, all-at, at_all}
+use Rattle.sets.specs.Listed.{any_at, at_any, all_at, at_all}
 use Rattle.grouping.specs.Alike.{alike_of, alike_at, alike_kind}
 use Rattle.grouping.specs.Leads.{FirstAlike, leads_one}
 use Rattle.grouping.specs.Led.{leaders_at, marks_at, marks_end, Lent, Led}
@@ -29,46 +29,46 @@ markable x = record { words = x.words; early = λ i h. (x.leads i h).early }
 
 -- the marks cleared: what stands before them stays
 module _ (v : List ℕ) (z : List ℕ) (m : Markable v z) (y : List ℕ) (e : y ≡ cleared_range z marks_at marks_end) where
-  pub cleared-length : length y ≡ scratch_words
-  cleared-length = ap length e ∙ length-clearedRange z marks_at marks_end (omega arith) (omega (arith, m.words.lent)) ∙ m.words.lent
+  pub cleared_length : length y ≡ scratch_words
+  cleared_length = ap length e ∙ length_cleared_range z marks_at marks_end (omega arith) (omega (arith, m.words.lent)) ∙ m.words.lent
 
-  cleared-same : (j : ℕ) → j < marks_at → get_or y j 0 ≡ get_or z j 0
-  cleared-same j h = ap (λ (l : List ℕ). get_or l j 0) e ∙ clearedRange-before z marks_at marks_end (omega arith) (omega (arith, m.words.lent)) j h
+  cleared_same : (j : ℕ) → j < marks_at → get_or y j 0 ≡ get_or z j 0
+  cleared_same j h = ap (λ (l : List ℕ). get_or l j 0) e ∙ cleared_range_before z marks_at marks_end (omega arith) (omega (arith, m.words.lent)) j h
 
-  cleared-leader : (i : ℕ) → i < config_count v → leader_at y i ≡ leader_at z i
-  cleared-leader i h = cleared-same (leaders_at + i) (omega (arith, m.words.few))
+  cleared_leader : (i : ℕ) → i < config_count v → leader_at y i ≡ leader_at z i
+  cleared_leader i h = cleared_same (leaders_at + i) (omega (arith, m.words.few))
 
-  pub cleared-markable : Markable v y
-  cleared-markable = record {
-    words = record { sized = m.words.sized; few = m.words.few; lent = cleared-length };
-    early = λ i h. rw (cleared-leader i h) (m.early i h);
+  pub cleared_markable : Markable v y
+  cleared_markable = record {
+    words = record { sized = m.words.sized; few = m.words.few; lent = cleared_length };
+    early = λ i h. rw (cleared_leader i h) (m.early i h);
   }
 
-  pub marked-none : (p : Picks) → Marked v p 0 y y
-  marked-none p = record {
-    lent = cleared-length;
+  pub marked_none : (p : Picks) → Marked v p 0 y y
+  marked_none p = record {
+    lent = cleared_length;
     same = λ j h. refl;
     hit = λ i h. absurd (omega arith);
     only = λ l h. inl (ap (λ (l' : List ℕ). get_or l' (marks_at + l) 0) e
-        ∙ clearedRange-inside z marks_at marks_end (omega arith) (omega (arith, m.words.lent)) (marks_at + l) (omega arith) (omega (arith, m.words.few)));
+        ∙ cleared_range_inside z marks_at marks_end (omega arith) (omega (arith, m.words.lent)) (marks_at + l) (omega arith) (omega (arith, m.words.few)));
   }
 
   -- marked since then
-  pub marked-since : (p : Picks) (u : List ℕ) → Marked v p (config_count v) y u → Marked v p (config_count v) z u
-  marked-since p u x = record {
+  pub marked_since : (p : Picks) (u : List ℕ) → Marked v p (config_count v) y u → Marked v p (config_count v) z u
+  marked_since p u x = record {
     lent = x.lent;
-    same = λ j h. x.same j h ∙ cleared-same j h;
-    hit = λ i h. rw (cleared-leader i h) at (x.hit i h);
-    only = λ l h. ⊎_elim inl (λ r. inr (r.0, r.1, sym (cleared-leader r.0 r.1) ∙ r.2, r.3)) (x.only l h);
+    same = λ j h. x.same j h ∙ cleared_same j h;
+    hit = λ i h. rw (cleared_leader i h) at (x.hit i h);
+    only = λ l h. ⊎_elim inl (λ r. inr (r.0, r.1, sym (cleared_leader r.0 r.1) ∙ r.2, r.3)) (x.only l h);
   }
 
 module _ (v : List ℕ) (p : Picks) (n : ℕ) (z u : List ℕ) (m : Markable v z) (x : Marked v p n z u) (h : n < config_count v) where
   -- the first one of config n, before and now
-  pub leader-same : leader_at u n ≡ leader_at z n
-  leader-same = x.same (leaders_at + n) (omega (arith, m.words.few))
+  pub leader_same : leader_at u n ≡ leader_at z n
+  leader_same = x.same (leaders_at + n) (omega (arith, m.words.few))
 
-  pub leader-few : leader_at u n < most_configs
-  leader-few = omega (arith, leader-same, m.early n h, m.words.few)
+  pub leader_few : leader_at u n < most_configs
+  leader_few = omega (arith, leader_same, m.early n h, m.words.few)
 
   abbrev l : ℕ
   l = leader_at z n
@@ -79,27 +79,27 @@ module _ (v : List ℕ) (p : Picks) (n : ℕ) (z u : List ℕ) (m : Markable v z
   small : l < config_count v
   small = omega (arith, m.early n h)
 
-  set-mark : mark_at (set u (marks_at + l) 1) l ≡ 1
-  set-mark = get_or-set_same u (marks_at + l) 1 0 (omega (arith, x.lent, m.words.few, small))
+  set_mark : mark_at (set u (marks_at + l) 1) l ≡ 1
+  set_mark = get_or-set_same u (marks_at + l) 1 0 (omega (arith, x.lent, m.words.few, small))
 
-  other-mark : (a : ℕ) → (a ≡ l → ⊥) → mark_at (set u (marks_at + l) 1) a ≡ mark_at u a
-  other-mark a d = get_or-set_other u (marks_at + l) (marks_at + a) 1 0 (omega arith)
+  other_mark : (a : ℕ) → (a ≡ l → ⊥) → mark_at (set u (marks_at + l) 1) a ≡ mark_at u a
+  other_mark a d = get_or-set_other u (marks_at + l) (marks_at + a) 1 0 (omega arith)
 
-  mark-yes : Pick l n → Marked v p (n + 1) z (set u (marks_at + l) 1)
-  mark-yes y = rw (add-one n) (record {
+  mark_yes : Pick l n → Marked v p (n + 1) z (set u (marks_at + l) 1)
+  mark_yes y = rw (add-one n) (record {
     lent = simp length-set x.lent;
     same = λ j s. get_or-set_other u (marks_at + l) j 1 0 (omega arith) ∙ x.same j s;
-    hit = λ i s q. two (leader_at z i) l (λ e. rw e set-mark) (λ d. other-mark (leader_at z i) d ∙ x.hit i (earlier i s d) q);
+    hit = λ i s q. two (leader_at z i) l (λ e. rw e set_mark) (λ d. other_mark (leader_at z i) d ∙ x.hit i (earlier i s d) q);
     only = λ a s. two a l
         (λ e. inr (n, omega arith, sym e, rw e y))
-        (λ d. ⊎_elim (λ q. inl (other-mark a d ∙ q)) (λ q. inr (q.0, omega (arith, q.1), q.2, q.3)) (x.only a s));
+        (λ d. ⊎_elim (λ q. inl (other_mark a d ∙ q)) (λ q. inr (q.0, omega (arith, q.1), q.2, q.3)) (x.only a s));
   })
     where
       earlier : (i : ℕ) → i < suc n → (leader_at z i ≡ l → ⊥) → i < n
       earlier i s d = two i n (λ e. absurd (d (ap (leader_at z) e))) (λ e. omega arith)
 
-  mark-no : (Pick l n → ⊥) → Marked v p (n + 1) z u
-  mark-no y = rw (add-one n) (record {
+  mark_no : (Pick l n → ⊥) → Marked v p (n + 1) z u
+  mark_no y = rw (add-one n) (record {
     lent = x.lent;
     same = x.same;
     hit = λ i s q. two i n (λ e. absurd (y (rw e at q))) (λ d. x.hit i (omega arith) q);
@@ -109,8 +109,8 @@ module _ (v : List ℕ) (p : Picks) (n : ℕ) (z u : List ℕ) (m : Markable v z
   -- what the code does with config n
   pub marked_next : (b : Bool) → b ≡ picks p (config_at v (leader_at u n)) (config_at v n) → (y : List ℕ) → y ≡ marked_if b u (leader_at u n) → Marked v p (n + 1) z y
   unfolding marked_if
-  marked_next true e y d = rw (d, leader-same) (mark-yes (sym (rw leader-same at e)))
-  marked_next false e y d = rw d (mark-no (λ q. never_both q (sym (rw leader-same at e))))
+  marked_next true e y d = rw (d, leader_same) (mark_yes (sym (rw leader_same at e)))
+  marked_next false e y d = rw d (mark_no (λ q. never_both q (sym (rw leader_same at e))))
 
 pub marked_able : {v : List ℕ} {p : Picks} {z u : List ℕ} → Markable v z → Marked v p (config_count v) z u → Markable v u
 marked_able m x = record {
@@ -148,10 +148,10 @@ module _ {v : List ℕ} {k : Alike} {p : Picks} {z u : List ℕ} (x : Led v k (c
   Served i = any (λ d. alike_of k (config_at v i) d && picks p (config_at v i) d) cs
 
   serve : (i j : ℕ) → j < n → alike_at v k i j ≡ true → picks p (config_at v i) (config_at v j) ≡ true → Served i ≡ true
-  serve i j h a q = at-any (λ d. alike_of k (config_at v i) d && picks p (config_at v i) d) v n j h (both_true _ _ a q)
+  serve i j h a q = at_any (λ d. alike_of k (config_at v i) d && picks p (config_at v i) d) v n j h (both_true _ _ a q)
 
-  same-leader : (i : ℕ) → i < n → leader_at u i ≡ leader_at z i
-  same-leader i h = w.same (leaders_at + i) (omega (arith, x.words.few))
+  same_leader : (i : ℕ) → i < n → leader_at u i ≡ leader_at z i
+  same_leader i h = w.same (leaders_at + i) (omega (arith, x.words.few))
 
   served : (i : ℕ) → i < n → (mark_at u (leader_at z i) ≡ 0 → ⊥) → Served i ≡ true
   served i h m =
@@ -178,9 +178,9 @@ module _ {v : List ℕ} {k : Alike} {p : Picks} {z u : List ℕ} (x : Led v k (c
       (passed_back p (config_at v i) (config_at v l) (config_at v r.0) (and_right (alike_at v k i r.0) _ r.2)))
 
   -- the mark of its first one tells whether config i has one alike that is picked
-  pub mark-tells : (i : ℕ) → i < n → not (eqb (mark_at u (leader_at u i)) 0) ≡ any (λ d. alike_of k (config_at v i) d && picks p (config_at v i) d) cs
-  mark-tells i h =
-      let e = ap (mark_at u) (same-leader i h) in
+  pub mark_tells : (i : ℕ) → i < n → not (eqb (mark_at u (leader_at u i)) 0) ≡ any (λ d. alike_of k (config_at v i) d && picks p (config_at v i) d) cs
+  mark_tells i h =
+      let e = ap (mark_at u) (same_leader i h) in
       two (mark_at u (leader_at u i)) 0
       (λ q. rw (eq-eqb (mark_at u (leader_at u i)) 0 q) (sym (unserved i h (sym e ∙ q))))
       (λ q. rw (ne_eqb (mark_at u (leader_at u i)) 0 q) (sym (served i h (λ d. q (e ∙ d)))))
@@ -194,10 +194,10 @@ pub record Marking (v : List ℕ) (p : Picks) (m : ℕ) (z u : List ℕ) : Type 
   pub marked : Marked v p m z u
 
 pub marking_begin : (v z : List ℕ) → Markable v z → (y : List ℕ) → y ≡ cleared_range z marks_at marks_end → (p : Picks) → Marking v p 0 y y
-marking_begin v z m y e p = record { within = omega arith; able = cleared-markable v z m y e; marked = marked-none v z m y e p }
+marking_begin v z m y e p = record { within = omega arith; able = cleared_markable v z m y e; marked = marked_none v z m y e p }
 
 pub marking_few : {v : List ℕ} {p : Picks} {m : ℕ} {z u : List ℕ} → Marking v p m z u → m < config_count v → leader_at u m < most_configs
-marking_few {v} {p} {m} {z} {u} g h = leader-few v p m z u g.able g.marked h
+marking_few {v} {p} {m} {z} {u} g h = leader_few v p m z u g.able g.marked h
 
 pub marking_next : {v : List ℕ} {p : Picks} {m : ℕ} {z u : List ℕ} → Marking v p m z u → m < config_count v
     → (b : Bool) → b ≡ picks p (config_at v (leader_at u m)) (config_at v m) → (y : List ℕ) → y ≡ marked_if b u (leader_at u m) → Marking v p (m + 1) z y
@@ -205,4 +205,4 @@ marking_next {v} {p} {m} {z} {u} g h b e y d = record { within = omega arith; ab
 
 pub marking_end : (v z : List ℕ) → Markable v z → (y : List ℕ) → y ≡ cleared_range z marks_at marks_end → (p : Picks) (m : ℕ) (u : List ℕ)
     → Marking v p m y u → config_count v ≤ m → Marked v p (config_count v) z u
-marking_end v z a y e p m u g h = let q : m ≡ config_count v = omega (arith, g.within) in marked-since v z a y e p u (rw q at g.marked)
+marking_end v z a y e p m u g h = let q : m ≡ config_count v = omega (arith, g.within) in marked_since v z a y e p u (rw q at g.marked)

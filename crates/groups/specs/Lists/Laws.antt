@@ -4,9 +4,9 @@ use Rattle.std.proofs.Common.{sym, ◌∙◌, subst, inl, inr, arith}
 use Rattle.groups.specs.Lists.{Any, All, In, Pairwise, Before, Rising}
 
 module _ {A : Type 0} where
-  pub some-map : (P Q : A → Type 0) (xs : List A) → ((x : A) → P x → Q x) → Any P xs → Any Q xs
-  some-map P Q (x ∷ xs) f (inl p) = inl (f x p)
-  some-map P Q (x ∷ xs) f (inr m) = inr (some-map P Q xs f m)
+  pub some_map : (P Q : A → Type 0) (xs : List A) → ((x : A) → P x → Q x) → Any P xs → Any Q xs
+  some_map P Q (x ∷ xs) f (inl p) = inl (f x p)
+  some_map P Q (x ∷ xs) f (inr m) = inr (some_map P Q xs f m)
 
   pub every_map : (P Q : A → Type 0) (xs : List A) → ((x : A) → P x → Q x) → All P xs → All Q xs
   every_map P Q [] f v = tt
@@ -16,25 +16,25 @@ module _ {A : Type 0} where
   every_of P [] f = tt
   every_of P (x ∷ xs) f = (f x, every_of P xs f)
 
-  pub every-both : (P Q R : A → Type 0) (xs : List A) → ((x : A) → P x → Q x → R x) → All P xs → All Q xs → All R xs
-  every-both P Q R [] f v w = tt
-  every-both P Q R (x ∷ xs) f v w = (f x v.0 w.0, every-both P Q R xs f v.1 w.1)
+  pub every_both : (P Q R : A → Type 0) (xs : List A) → ((x : A) → P x → Q x → R x) → All P xs → All Q xs → All R xs
+  every_both P Q R [] f v w = tt
+  every_both P Q R (x ∷ xs) f v w = (f x v.0 w.0, every_both P Q R xs f v.1 w.1)
 
   pub pairwise_map : (R S : A → A → Type 0) (xs : List A) → ((x y : A) → R x y → S x y) → Pairwise R xs → Pairwise S xs
   pairwise_map R S [] f v = tt
   pairwise_map R S (x ∷ xs) f v = (every_map (R x) (S x) xs (f x) v.0, pairwise_map R S xs f v.1)
 
-  pub pairwise-both : (R S T : A → A → Type 0) (xs : List A) → ((x y : A) → R x y → S x y → T x y) → Pairwise R xs → Pairwise S xs → Pairwise T xs
-  pairwise-both R S T [] f v w = tt
-  pairwise-both R S T (x ∷ xs) f v w = (every-both (R x) (S x) (T x) xs (f x) v.0 w.0, pairwise-both R S T xs f v.1 w.1)
+  pub pairwise_both : (R S T : A → A → Type 0) (xs : List A) → ((x y : A) → R x y → S x y → T x y) → Pairwise R xs → Pairwise S xs → Pairwise T xs
+  pairwise_both R S T [] f v w = tt
+  pairwise_both R S T (x ∷ xs) f v w = (every_both (R x) (S x) (T x) xs (f x) v.0 w.0, pairwise_both R S T xs f v.1 w.1)
 
   pub every_in : (P : A → Type 0) (xs : List A) → All P xs → (a : A) → In a xs → P a
   every_in P (x ∷ xs) v a (inl e) = subst P e v.0
   every_in P (x ∷ xs) v a (inr m) = every_in P xs v.1 a m
 
-  pub in-every : (P : A → Type 0) (xs : List A) → ((a : A) → In a xs → P a) → All P xs
-  in-every P [] f = tt
-  in-every P (x ∷ xs) f = (f x (inl refl), in-every P xs (λ a m. f a (inr m)))
+  pub in_every : (P : A → Type 0) (xs : List A) → ((a : A) → In a xs → P a) → All P xs
+  in_every P [] f = tt
+  in_every P (x ∷ xs) f = (f x (inl refl), in_every P xs (λ a m. f a (inr m)))
 
   -- the element that some is
   pub some_in : (P : A → Type 0) (xs : List A) → Any P xs → (a : A) × In a xs × P a
@@ -47,16 +47,16 @@ module _ {A : Type 0} where
 
   -- ---- what comes first
 
-  pub before-map : (P Q P' Q' : A → Type 0) (xs : List A) → ((x : A) → P x → P' x) → ((x : A) → Q' x → Q x) → Before P Q xs → Before P' Q' xs
-  before-map P Q P' Q' (x ∷ xs) f g (inl p) = inl (f x p)
-  before-map P Q P' Q' (x ∷ xs) f g (inr b) = inr (λ q. b.0 (g x q), before-map P Q P' Q' xs f g b.1)
+  pub before_map : (P Q P' Q' : A → Type 0) (xs : List A) → ((x : A) → P x → P' x) → ((x : A) → Q' x → Q x) → Before P Q xs → Before P' Q' xs
+  before_map P Q P' Q' (x ∷ xs) f g (inl p) = inl (f x p)
+  before_map P Q P' Q' (x ∷ xs) f g (inr b) = inr (λ q. b.0 (g x q), before_map P Q P' Q' xs f g b.1)
 
   -- not both before the other
-  pub before-asym : (P Q : A → Type 0) (xs : List A) → ((x : A) → P x → Q x → ⊥) → Before P Q xs → Before Q P xs → ⊥
-  before-asym P Q (x ∷ xs) n (inl p) (inl q) = n x p q
-  before-asym P Q (x ∷ xs) n (inl p) (inr b) = b.0 p
-  before-asym P Q (x ∷ xs) n (inr a) (inl q) = a.0 q
-  before-asym P Q (x ∷ xs) n (inr a) (inr b) = before-asym P Q xs n a.1 b.1
+  pub before_asym : (P Q : A → Type 0) (xs : List A) → ((x : A) → P x → Q x → ⊥) → Before P Q xs → Before Q P xs → ⊥
+  before_asym P Q (x ∷ xs) n (inl p) (inl q) = n x p q
+  before_asym P Q (x ∷ xs) n (inl p) (inr b) = b.0 p
+  before_asym P Q (x ∷ xs) n (inr a) (inl q) = a.0 q
+  before_asym P Q (x ∷ xs) n (inr a) (inr b) = before_asym P Q xs n a.1 b.1
 
   -- ---- two lists in order, with the same elements, are one
 
@@ -66,26 +66,26 @@ module _ {A : Type 0} where
     same_head x y xs ys v w (inr m) (inl e) = e
     same_head x y xs ys v w (inr m) (inr n) = absurd (asym x y (every_in (R x) xs v y n) (every_in (R y) ys w x m))
 
-    tail-in : (x y a : A) (xs ys : List A) → x ≡ y → All (R x) xs → In a (y ∷ ys) → In a xs → In a ys
-    tail-in x y a xs ys e v (inl d) m =
+    tail_in : (x y a : A) (xs ys : List A) → x ≡ y → All (R x) xs → In a (y ∷ ys) → In a xs → In a ys
+    tail_in x y a xs ys e v (inl d) m =
         let r : R a a = subst (λ z. R z a) (e ∙ d) (every_in (R x) xs v a m) in absurd (asym a a r r)
-    tail-in x y a xs ys e v (inr n) m = n
+    tail_in x y a xs ys e v (inr n) m = n
 
-    pub sorted-unique : (xs ys : List A) → Pairwise R xs → Pairwise R ys
+    pub sorted_unique : (xs ys : List A) → Pairwise R xs → Pairwise R ys
         → ((a : A) → In a xs → In a ys) → ((a : A) → In a ys → In a xs) → xs ≡ ys
-    sorted-unique [] [] v w f g = refl
-    sorted-unique [] (y ∷ ys) v w f g = absurd (g y (inl refl))
-    sorted-unique (x ∷ xs) [] v w f g = absurd (f x (inl refl))
-    sorted-unique (x ∷ xs) (y ∷ ys) v w f g =
+    sorted_unique [] [] v w f g = refl
+    sorted_unique [] (y ∷ ys) v w f g = absurd (g y (inl refl))
+    sorted_unique (x ∷ xs) [] v w f g = absurd (f x (inl refl))
+    sorted_unique (x ∷ xs) (y ∷ ys) v w f g =
         let e : x ≡ y = same_head x y xs ys v.0 w.0 (f x (inl refl)) (g y (inl refl)) in
         let t : xs ≡ ys =
-        sorted-unique xs ys v.1 w.1
-        (λ a m. tail-in x y a xs ys e v.0 (f a (inr m)) m)
-        (λ a m. tail-in y x a ys xs (sym e) w.0 (g a (inr m)) m) in
+        sorted_unique xs ys v.1 w.1
+        (λ a m. tail_in x y a xs ys e v.0 (f a (inr m)) m)
+        (λ a m. tail_in y x a ys xs (sym e) w.0 (g a (inr m)) m) in
         λ i. e i ∷ t i
 
 pub rising_unique : (xs ys : List ℕ) → Rising xs → Rising ys → ((a : ℕ) → In a xs → In a ys) → ((a : ℕ) → In a ys → In a xs) → xs ≡ ys
-rising_unique = sorted-unique (λ x y. x < y) (λ x y h k. omega arith)
+rising_unique = sorted_unique (λ x y. x < y) (λ x y h k. omega arith)
 
 -- ---- lists made of others
 
@@ -98,14 +98,14 @@ module _ {A B : Type 0} (f : A → B) where
   made_every P [] v = tt
   made_every P (x ∷ xs) v = (v.0, made_every P xs v.1)
 
-  pub some-made : (P : B → Type 0) (xs : List A) → Any (λ x. P (f x)) xs → Any P (map f xs)
-  some-made P (x ∷ xs) (inl p) = inl p
-  some-made P (x ∷ xs) (inr m) = inr (some-made P xs m)
+  pub some_made : (P : B → Type 0) (xs : List A) → Any (λ x. P (f x)) xs → Any P (map f xs)
+  some_made P (x ∷ xs) (inl p) = inl p
+  some_made P (x ∷ xs) (inr m) = inr (some_made P xs m)
 
   pub made_some : (P : B → Type 0) (xs : List A) → Any P (map f xs) → Any (λ x. P (f x)) xs
   made_some P (x ∷ xs) (inl p) = inl p
   made_some P (x ∷ xs) (inr m) = inr (made_some P xs m)
 
-  pub pairwise-made : (R : B → B → Type 0) (xs : List A) → Pairwise (λ x y. R (f x) (f y)) xs → Pairwise R (map f xs)
-  pairwise-made R [] v = tt
-  pairwise-made R (x ∷ xs) v = (every_made (R (f x)) xs v.0, pairwise-made R xs v.1)
+  pub pairwise_made : (R : B → B → Type 0) (xs : List A) → Pairwise (λ x y. R (f x) (f y)) xs → Pairwise R (map f xs)
+  pairwise_made R [] v = tt
+  pairwise_made R (x ∷ xs) v = (every_made (R (f x)) xs v.0, pairwise_made R xs v.1)

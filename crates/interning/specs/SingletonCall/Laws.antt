@@ -18,7 +18,7 @@ use Rattle.encoding.specs.Decide.{sound, fits}
 use Rattle.encoding.specs.Decide.Laws.{sound_true, true_fits}
 use Rattle.encoding.specs.Decoded.{decoded}
 use Rattle.store.specs.Checks.{given, unless}
-use Rattle.store.specs.Checks.Laws.{unless-first, unless-next}
+use Rattle.store.specs.Checks.Laws.{unless_first, unless_next}
 use Rattle.store.specs.Calls.{refused, context, Left, kept, refusal, unknown_context, no_room, gives}
 use Rattle.store.specs.Nested.{if_lengths, if_sound, if_known, checked, grown, checked_nested, known_nested, room_nested}
 use Rattle.interning.specs.SingletonCall.{single_s, singleton_checks, singleton_call}
@@ -38,26 +38,26 @@ placed_single w p r = grown w (place (store_of w) (over r (tree (store_of w) p) 
 -- ---- the mark, and any other state
 
 module _ (s : Store) (p r : ℕ) where
-  pub single-mark : eqb r empty_mark ≡ true → single_s s p r ≡ (0, s)
+  pub single_mark : eqb r empty_mark ≡ true → single_s s p r ≡ (0, s)
   unfolding single_s
-  single-mark e = rw (e, single_s)
+  single_mark e = rw (e, single_s)
 
-  pub single-state : eqb r empty_mark ≡ false → single_s s p r ≡ place s (over r (tree s p) none)
+  pub single_state : eqb r empty_mark ≡ false → single_s s p r ≡ place s (over r (tree s p) none)
   unfolding single_s
-  single-state e = rw (e, single_s)
+  single_state e = rw (e, single_s)
 
 module _ (w : List ℕ) (r : ℕ) (go : Left) where
-  state-mark : eqb r empty_mark ≡ true → if_state w r go ≡ kept (context 0) w
+  state_mark : eqb r empty_mark ≡ true → if_state w r go ≡ kept (context 0) w
   unfolding if_state
-  state-mark e = rw (e, if_state)
+  state_mark e = rw (e, if_state)
 
-  state-goes : eqb r empty_mark ≡ false → r < stop → if_state w r go ≡ go
+  state_goes : eqb r empty_mark ≡ false → r < stop → if_state w r go ≡ go
   unfolding if_state
-  state-goes e h = rw (e, if_state, lt-ltb r stop h)
+  state_goes e h = rw (e, if_state, lt-ltb r stop h)
 
-  state-out : eqb r empty_mark ≡ false → stop ≤ r → if_state w r go ≡ kept (refused 5) w
+  state_out : eqb r empty_mark ≡ false → stop ≤ r → if_state w r go ≡ kept (refused 5) w
   unfolding if_state
-  state-out e h = rw (e, if_state, le-ltb r stop h)
+  state_out e h = rw (e, if_state, le-ltb r stop h)
 
 -- calls that agree on sound words of the right length
 pub checked_agree : (w z : List ℕ) (x y : Left) → (length w ≡ store_words → sound w ≡ true → x ≡ y) → checked w z x ≡ checked w z y
@@ -71,34 +71,34 @@ checked_agree w z x y h =
 
 module _ (w z : List ℕ) (p r : ℕ) (l : length w ≡ store_words) (s : sound w ≡ true) where
   -- a store that nothing is added to leaves its words
-  mark-kept : grown w (0, store_of w) ≡ kept (context 0) w
+  mark_kept : grown w (0, store_of w) ≡ kept (context 0) w
   unfolding grown
-  mark-kept =
+  mark_kept =
       let d = decoded w l (sound_true w l s) in
       let n : length (store_of w) - length (store_of w) ≡ 0 = omega arith in
       rw (true_fits (store_of w) d.0.fits, grown, n, ← d.1)
 
-  refused-5 : refusal w z 5 ≡ kept (refused 5) w
+  refused_5 : refusal w z 5 ≡ kept (refused 5) w
   unfolding refusal
-  refused-5 = refl
+  refused_5 = refl
 
-  no-5 : (a b : Bool) → a ≡ false → (a && b) ≡ false
-  no-5 a b e = rw e
+  no_5 : (a b : Bool) → a ≡ false → (a && b) ≡ false
+  no_5 a b e = rw e
 
   -- after the mark, and after any other state
-  state-nested : unless (given 5 (leb stop r && not (eqb r empty_mark)) ∷ no_room (single_s (store_of w) p r).1 ∷ []) (refusal w z) (gives (store_of w) (single_s (store_of w) p r))
+  state_nested : unless (given 5 (leb stop r && not (eqb r empty_mark)) ∷ no_room (single_s (store_of w) p r).1 ∷ []) (refusal w z) (gives (store_of w) (single_s (store_of w) p r))
       ≡ if_state w r (placed_single w p r)
   unfolding placed_single
-  state-nested =
-      let next = unless-next (refusal w z) (gives (store_of w) (single_s (store_of w) p r)) (given 5 (leb stop r && not (eqb r empty_mark))) (no_room (single_s (store_of w) p r).1 ∷ []) in
+  state_nested =
+      let next = unless_next (refusal w z) (gives (store_of w) (single_s (store_of w) p r)) (given 5 (leb stop r && not (eqb r empty_mark))) (no_room (single_s (store_of w) p r).1 ∷ []) in
       bool? (eqb r empty_mark)
-      (λ e. next (rw e (and-false (leb stop r))) ∙ rw (single-mark (store_of w) p r e) (room_nested w z (0, store_of w) ∙ mark-kept ∙ sym (state-mark w r _ e)))
+      (λ e. next (rw e (and-false (leb stop r))) ∙ rw (single_mark (store_of w) p r e) (room_nested w z (0, store_of w) ∙ mark_kept ∙ sym (state_mark w r _ e)))
       (λ e. below? r stop
-      (λ h. next (no-5 _ _ (lt-leb stop r h)) ∙ rw (single-state (store_of w) p r e) (room_nested w z (place (store_of w) (over r (tree (store_of w) p) none)) ∙ sym (state-goes w r _ e h)))
-      (λ h. unless-first (refusal w z) _ (given 5 (leb stop r && not (eqb r empty_mark))) _ (rw (le-leb stop r h, e)) ∙ refused-5 ∙ sym (state-out w r _ e h)))
+      (λ h. next (no_5 _ _ (lt-leb stop r h)) ∙ rw (single_state (store_of w) p r e) (room_nested w z (place (store_of w) (over r (tree (store_of w) p) none)) ∙ sym (state_goes w r _ e h)))
+      (λ h. unless_first (refusal w z) _ (given 5 (leb stop r && not (eqb r empty_mark))) _ (rw (le-leb stop r h, e)) ∙ refused_5 ∙ sym (state_out w r _ e h)))
 
 pub singleton_nested : (w z : List ℕ) (p r : ℕ) → singleton_call w z p r ≡ checked w z (if_known w p (if_state w r (placed_single w p r)))
 unfolding singleton_call singleton_checks
 singleton_nested w z p r =
     checked_nested w z _ (gives (store_of w) (single_s (store_of w) p r)) ∙
-    checked_agree w z _ _ (λ l s. known_nested w z _ (gives (store_of w) (single_s (store_of w) p r)) p ∙ ap (if_known w p) (state-nested w z p r l s))
+    checked_agree w z _ _ (λ l s. known_nested w z _ (gives (store_of w) (single_s (store_of w) p r)) p ∙ ap (if_known w p) (state_nested w z p r l s))

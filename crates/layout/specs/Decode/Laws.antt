@@ -3,7 +3,7 @@ use Rattle.std.specs.Prelude.{◌≡◌, refl, List, ℕ, zero, suc, ◌<◌, le
 use Rattle.std.proofs.Common.{sym, ap, ◌∙◌, arith}
 use Rattle.cases.specs.Numbers.{two}
 use Rattle.arena.specs.Store.{end, dollar, push, node_at}
-use Rattle.arena.specs.Trees.{node-new, node-old}
+use Rattle.arena.specs.Trees.{node_new, node_old}
 use Rattle.layout.specs.Layout.{kind, first, second, parent, state}
 use Rattle.layout.specs.Listing.{listing}
 use Rattle.layout.specs.Decode.{node_from, node_in, store_in}
@@ -21,20 +21,20 @@ store_node w zero c h = absurd (omega arith)
 store_node w (suc n) c h =
     let l : length (store_in w n) ≡ n = store_length w n in
     two c n
-    (λ e. node-new _ _ c (omega arith) ∙ ap (node_in w) (sym e))
-    (λ e. node-old _ _ c (omega arith) ∙ store_node w n c (omega arith))
+    (λ e. node_new _ _ c (omega arith) ∙ ap (node_in w) (sym e))
+    (λ e. node_old _ _ c (omega arith) ∙ store_node w n c (omega arith))
 
 -- ---- by kind
 
 module _ (w : List ℕ) (c : ℕ) where
-  pub node-zero : kind w c ≡ 0 → node_in w c ≡ dollar
+  pub node_zero : kind w c ≡ 0 → node_in w c ≡ dollar
   unfolding node_in node_from
-  node-zero e = rw e
+  node_zero e = rw e
 
-  pub node-one : kind w c ≡ 1 → node_in w c ≡ push (second w c) (first w c) end
+  pub node_one : kind w c ≡ 1 → node_in w c ≡ push (second w c) (first w c) end
   unfolding node_in node_from
-  node-one e = rw e
+  node_one e = rw e
 
-  pub node-many : kind w c ≡ 2 → node_in w c ≡ listing (state w) (parent w) (first w c) (second w c)
+  pub node_many : kind w c ≡ 2 → node_in w c ≡ listing (state w) (parent w) (first w c) (second w c)
   unfolding node_in node_from
-  node-many e = rw e
+  node_many e = rw e

@@ -19,13 +19,13 @@ pub record Entries (st pa : ℕ → ℕ) (i k c : ℕ) : Type 0 where
 -- ---- one entry at a time
 
 module _ (st pa : ℕ → ℕ) (i k : ℕ) where
-  pub listing-stop : st i ≡ stop → listing st pa i (suc k) ≡ dollar
+  pub listing_stop : st i ≡ stop → listing st pa i (suc k) ≡ dollar
   unfolding listing
-  listing-stop e = rw (eq-eqb (st i) stop e, listing)
+  listing_stop e = rw (eq-eqb (st i) stop e, listing)
 
-  pub listing-more : (st i ≡ stop → ⊥) → listing st pa i (suc k) ≡ push (st i) (pa i) (listing st pa (suc i) k)
+  pub listing_more : (st i ≡ stop → ⊥) → listing st pa i (suc k) ≡ push (st i) (pa i) (listing st pa (suc i) k)
   unfolding listing
-  listing-more n = rw (ne_eqb (st i) stop n, listing)
+  listing_more n = rw (ne_eqb (st i) stop n, listing)
 
 pub entries_rest : (st pa : ℕ → ℕ) (i k c : ℕ) → Entries st pa i (suc k) c → Entries st pa (suc i) k c
 entries_rest st pa i k c v = record {
@@ -67,8 +67,8 @@ listing_agree st pa st' pa' i i' (suc k) h =
     let e' : suc i' + j ≡ i' + suc j = omega arith in
     (ap st e ∙ (h (suc j) (omega arith)).0 ∙ sym (ap st' e'), ap pa e ∙ (h (suc j) (omega arith)).1 ∙ sym (ap pa' e'))) in
     two (st i) stop
-    (λ e. listing-stop st pa i k e ∙ sym (listing-stop st' pa' i' k (sym a ∙ e)))
-    (λ n. listing-more st pa i k n ∙ (rw (a, b, rest)) ∙ sym (listing-more st' pa' i' k (λ e. n (a ∙ e))))
+    (λ e. listing_stop st pa i k e ∙ sym (listing_stop st' pa' i' k (sym a ∙ e)))
+    (λ n. listing_more st pa i k n ∙ (rw (a, b, rest)) ∙ sym (listing_more st' pa' i' k (λ e. n (a ∙ e))))
 
 -- ---- sound entries: as many as there are words for, rising, below `stop`
 
@@ -77,16 +77,16 @@ unfolding listing size
 listing_size st pa i zero c v = refl
 listing_size st pa i (suc k) c v =
     two (st i) stop
-    (λ e. rw (listing-stop st pa i k e, stop_last st pa i k c v e))
-    (λ n. rw (listing-more st pa i k n, listing_size st pa (suc i) k c (entries_rest st pa i k c v)))
+    (λ e. rw (listing_stop st pa i k e, stop_last st pa i k c v e))
+    (λ n. rw (listing_more st pa i k n, listing_size st pa (suc i) k c (entries_rest st pa i k c v)))
 
 pub listing_rise : (st pa : ℕ → ℕ) (lo i k c : ℕ) → Entries st pa i k c → (0 < k → lo ≤ st i) → Rise lo c (listing st pa i k)
 unfolding listing
 listing_rise st pa lo i zero c v h = tt
 listing_rise st pa lo i (suc k) c v h =
     two (st i) stop
-    (λ e. rw (listing-stop st pa i k e) tt)
-    (λ n. rw (listing-more st pa i k n) (
+    (λ e. rw (listing_stop st pa i k e) tt)
+    (λ n. rw (listing_more st pa i k n) (
       h (omega arith),
       v.older i (omega arith) (omega arith),
       listing_rise st pa (suc (st i)) (suc i) k c (entries_rest st pa i k c v) (λ l. v.rise i (omega arith) (omega arith)),
@@ -97,14 +97,14 @@ unfolding listing
 listing_below st pa i zero c v = tt
 listing_below st pa i (suc k) c v =
     two (st i) stop
-    (λ e. rw (listing-stop st pa i k e) tt)
-    (λ n. rw (listing-more st pa i k n) (omega (arith, v.fit i (omega arith) (omega arith)), listing_below st pa (suc i) k c (entries_rest st pa i k c v)))
+    (λ e. rw (listing_stop st pa i k e) tt)
+    (λ n. rw (listing_more st pa i k n) (omega (arith, v.fit i (omega arith) (omega arith)), listing_below st pa (suc i) k c (entries_rest st pa i k c v)))
 
 pub listing_full : (st pa : ℕ → ℕ) (i k : ℕ) → 0 < k → Full (listing st pa i k)
 unfolding listing
 listing_full st pa i zero h = absurd (omega arith)
 listing_full st pa i (suc k) h =
-    two (st i) stop (λ e. rw (listing-stop st pa i k e) tt) (λ n. rw (listing-more st pa i k n) tt)
+    two (st i) stop (λ e. rw (listing_stop st pa i k e) tt) (λ n. rw (listing_more st pa i k n) tt)
 
 -- ---- sound lists that hold the same entries agree place by place
 
@@ -136,10 +136,10 @@ listing_head st pa st' pa' i i' k c c' v v' e =
       v.dollar i (omega arith) (omega arith) a ∙ sym (v'.dollar i' (omega arith) (omega arith) b),
       (rw (stop_last st pa i k c v a) (no_entries st pa st' pa' (suc i) (suc i'))),
     ))
-    (λ b. absurd (dollar_push _ _ _ (sym (listing-stop st pa i k a) ∙ e ∙ listing-more st' pa' i' k b))))
+    (λ b. absurd (dollar_push _ _ _ (sym (listing_stop st pa i k a) ∙ e ∙ listing_more st' pa' i' k b))))
     (λ a. two (st' i') stop
-    (λ b. absurd (dollar_push _ _ _ (sym (listing-stop st' pa' i' k b) ∙ sym e ∙ listing-more st pa i k a)))
-    (λ b. let q = sym (listing-more st pa i k a) ∙ e ∙ listing-more st' pa' i' k b in
+    (λ b. absurd (dollar_push _ _ _ (sym (listing_stop st' pa' i' k b) ∙ sym e ∙ listing_more st pa i k a)))
+    (λ b. let q = sym (listing_more st pa i k a) ∙ e ∙ listing_more st' pa' i' k b in
     (push_state _ _ _ _ _ _ q, push_parent _ _ _ _ _ _ q, push_rest _ _ _ _ _ _ q)))
 
 pub listing_inj : (st pa st' pa' : ℕ → ℕ) (i i' k c c' : ℕ) → Entries st pa i k c → Entries st' pa' i' k c'

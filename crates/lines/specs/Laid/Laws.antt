@@ -74,12 +74,12 @@ rest_start b i xs ys e h = record { after = ap (λ (l : List ℕ). i + length l)
 
 module _ {b : List ℕ} {i : ℕ} {xs u : List ℕ} {j : ℕ} {ys : List ℕ} (r : Rest b i xs u j ys) where
   -- there is room for the next piece
-  pub rest-room : (ps zs : List ℕ) → ys ≡ ps ++ zs → j + length ps ≤ length u
-  rest-room ps zs e = omega (arith, r.after, r.sized, r.room, ap length e, length-append ps zs)
+  pub rest_room : (ps zs : List ℕ) → ys ≡ ps ++ zs → j + length ps ≤ length u
+  rest_room ps zs e = omega (arith, r.after, r.sized, r.room, ap length e, length-append ps zs)
 
   -- a piece more is laid
-  pub rest-step : {ps : List ℕ} {k : ℕ} {t : List ℕ} (zs : List ℕ) → ys ≡ ps ++ zs → Wrote u j ps k t → Rest b i xs t k zs
-  rest-step {ps} {k} {t} zs e w = record {
+  pub rest_step : {ps : List ℕ} {k : ℕ} {t : List ℕ} (zs : List ℕ) → ys ≡ ps ++ zs → Wrote u j ps k t → Rest b i xs t k zs
+  rest_step {ps} {k} {t} zs e w = record {
     after = omega (arith, w.after, r.after, ap length e, length-append ps zs);
     bytes =
         ap (λ (l : List ℕ). laid l k zs) w.bytes
@@ -92,8 +92,8 @@ module _ {b : List ℕ} {i : ℕ} {xs u : List ℕ} {j : ℕ} {ys : List ℕ} (r
   }
 
   -- nothing is left
-  pub rest-done : ys ≡ [] → Wrote b i xs j u
-  rest-done e = record {
+  pub rest_done : ys ≡ [] → Wrote b i xs j u
+  rest_done e = record {
     after = omega (arith, r.after, ap length e);
     bytes = sym (laid_none u j) ∙ sym (ap (laid u j) e) ∙ r.bytes;
     within = omega (arith, r.after, r.room, ap length e);

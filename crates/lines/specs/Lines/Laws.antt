@@ -19,12 +19,12 @@ module _ (b : List ℕ) (sized : length b ≡ line_bytes) (letter n : ℕ) (smal
     pub more_room : (k : ℕ) → k ≤ 39000 → j₂ + k ≤ length u₂
     more_room k h = wrote_room (wrote_then v₁ v₂) k (omega (arith, word_digits n small))
 
-    pub number-line : {j₃ : ℕ} {u₃ : List ℕ} → Wrote u₂ j₂ (10 ∷ []) j₃ u₃ → Wrote b 0 (number_line letter n) j₃ u₃
-    number-line v₃ = wrote_then (wrote_then v₁ v₂) v₃
+    pub number_line_lem : {j₃ : ℕ} {u₃ : List ℕ} → Wrote u₂ j₂ (10 ∷ []) j₃ u₃ → Wrote b 0 (number_line letter n) j₃ u₃
+    number_line_lem v₃ = wrote_then (wrote_then v₁ v₂) v₃
 
     module _ (xs : List ℕ) (few : length xs ≤ 39000) {j₃ : ℕ} {u₃ : List ℕ} (v₃ : Wrote u₂ j₂ xs j₃ u₃) where
-      pub end-room : j₃ + 1 ≤ length u₃
-      end-room = wrote_room (wrote_then (wrote_then v₁ v₂) v₃) 1 (omega (arith, word_digits n small, length-append (letter ∷ spaced n) xs))
+      pub end_room : j₃ + 1 ≤ length u₃
+      end_room = wrote_room (wrote_then (wrote_then v₁ v₂) v₃) 1 (omega (arith, word_digits n small, length-append (letter ∷ spaced n) xs))
 
-      pub headed-line : {j₄ : ℕ} {u₄ : List ℕ} → Wrote u₃ j₃ (10 ∷ []) j₄ u₄ → Wrote b 0 (letter ∷ spaced n ++ xs ++ 10 ∷ []) j₄ u₄
-      headed-line v₄ = wrote_then (wrote_then (wrote_then v₁ v₂) v₃) v₄
+      pub headed_line : {j₄ : ℕ} {u₄ : List ℕ} → Wrote u₃ j₃ (10 ∷ []) j₄ u₄ → Wrote b 0 (letter ∷ spaced n ++ xs ++ 10 ∷ []) j₄ u₄
+      headed_line v₄ = wrote_then (wrote_then (wrote_then v₁ v₂) v₃) v₄

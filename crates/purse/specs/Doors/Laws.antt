@@ -16,7 +16,7 @@ use Rattle.configs.specs.declared.adding.Added.TheVariants.{Inserted, Merged as 
 use Rattle.answers.specs.declared.structs.CountedAnswer.{CountedAnswer}
 use Rattle.answers.specs.SetAnswers.{set_counted_of, set_number_of}
 use Rattle.purse.specs.Doors.{OpensSet, OpensVerdict, Opens, OpensCounted, OpensSetCounted}
-use Rattle.answers.specs.Answers.{countedOf, number_of}
+use Rattle.answers.specs.Answers.{counted_of, number_of}
 
 -- a struct for the reply x beside the words that the call left
 pub door : {A : Type 0} (of : Reply → A) (a : A) (x : Reply) (w z : List ℕ) (l : Left) → a ≡ of x → leaves x w z ≡ l → Opens of l a w z
@@ -24,13 +24,13 @@ door of a x w z l h e = (h ∙ ap (λ (o : Left). of o.reply) e, ap (λ (o : Lef
 
 -- with what is counted
 module _ (a : CountedAnswer) (w z : List ℕ) (l : Left) where
-  pub number-door : (r : Numbered) → a ≡ countedOf (numbered r [] []) → numbered r w z ≡ l → OpensCounted l a w z
-  number-door (Number c k) h e = rw (← e) (h, refl, refl)
-  number-door (NotNumbered f) h e = rw (← e) (h, refl, refl)
+  pub number_door : (r : Numbered) → a ≡ counted_of (numbered r [] []) → numbered r w z ≡ l → OpensCounted l a w z
+  number_door (Number c k) h e = rw (← e) (h, refl, refl)
+  number_door (NotNumbered f) h e = rw (← e) (h, refl, refl)
 
-  pub merge-door : (r : Merged) → a ≡ countedOf (merged r [] []) → merged r w z ≡ l → OpensCounted l a w z
-  merge-door (MergedTo c k) h e = rw (← e) (h, refl, refl)
-  merge-door (NotMerged f) h e = rw (← e) (h, refl, refl)
+  pub merge_door : (r : Merged) → a ≡ counted_of (merged r [] []) → merged r w z ≡ l → OpensCounted l a w z
+  merge_door (MergedTo c k) h e = rw (← e) (h, refl, refl)
+  merge_door (NotMerged f) h e = rw (← e) (h, refl, refl)
 
 pub counted_determined : (x : Left) (a b : CountedAnswer) (w z v y : List ℕ) → OpensCounted x a w z → OpensCounted x b v y → (a ≡ b) × (w ≡ v) × (z ≡ y)
 counted_determined x a b w z v y p q = (p.0 ∙ sym q.0, p.1 ∙ sym q.1, p.2 ∙ sym q.2)

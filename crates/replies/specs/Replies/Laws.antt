@@ -31,13 +31,13 @@ pub record Answered (b : List ℕ) (x : Printed) (r : ℕ) (u : List ℕ) (l : L
 -- ---- the scratch
 
 module _ (z : List ℕ) where
-  pub wiped-right : length z ≡ scratch_words → wiped z ≡ replicate (length z) 0
+  pub wiped_right : length z ≡ scratch_words → wiped z ≡ replicate (length z) 0
   unfolding wiped
-  wiped-right l = (rw (eq-eqb (length z) scratch_words l, wiped)) ∙ sym (cleared z l)
+  wiped_right l = (rw (eq-eqb (length z) scratch_words l, wiped)) ∙ sym (cleared z l)
 
-  pub wiped-wrong : (length z ≡ scratch_words → ⊥) → wiped z ≡ z
+  pub wiped_wrong : (length z ≡ scratch_words → ⊥) → wiped z ≡ z
   unfolding wiped
-  wiped-wrong n = rw (ne_eqb (length z) scratch_words n, wiped)
+  wiped_wrong n = rw (ne_eqb (length z) scratch_words n, wiped)
 
 -- ---- a call on contexts, which leaves x; `done` prints e
 
@@ -60,13 +60,13 @@ on_store_lem b e x r u w v t z l p f g = record {
 -- ---- a call that may make a context
 
 module _ (b : List ℕ) (j : ℕ) (u : List ℕ) (a : Numbered) where
-  pub context-line : (c : ContextId) (k : ℕ) → a ≡ Number c k → Wrote b 0 (numbers_line 67 c.0 k) j u → Wrote b 0 (left_line [] (numbered a [] [])) j u
+  pub context_line_lem : (c : ContextId) (k : ℕ) → a ≡ Number c k → Wrote b 0 (numbers_line 67 c.0 k) j u → Wrote b 0 (left_line [] (numbered a [] [])) j u
   unfolding line_of context_line
-  context-line c k e v = rw e v
+  context_line_lem c k e v = rw e v
 
-  pub refusal-line : (f : Refusal) (n : ℕ) → a ≡ notNumbered f → n ≡ number f → Wrote b 0 (number_line 82 n) j u → Wrote b 0 (left_line [] (numbered a [] [])) j u
+  pub refusal_line_lem : (f : Refusal) (n : ℕ) → a ≡ notNumbered f → n ≡ number f → Wrote b 0 (number_line 82 n) j u → Wrote b 0 (left_line [] (numbered a [] [])) j u
   unfolding line_of refusal_line
-  refusal-line f n e q v = rw e (rw q at v)
+  refusal_line_lem f n e q v = rw e (rw q at v)
 
 pub replied_call : (b : List ℕ) (x : Left) (a : Numbered) (r : ℕ) (u w z : List ℕ) → numbered a w z ≡ x
     → Wrote b 0 (left_line [] (numbered a [] [])) r u → Replied b [] x r u w z
@@ -82,12 +82,12 @@ replied_merge b x (notMerged f) line r u w z e q v = rw (← e) (record { wrote 
 -- ---- the entries of a context
 
 module _ {w z : List ℕ} {c : ℕ} {a : Admitted} {y : List ℕ} (v : Asks w z c a y) (b : List ℕ) (r : ℕ) (u : List ℕ) where
-  pub show-refused : (f : Refusal) → a ≡ notReady f → (n : ℕ) → n ≡ number f → Wrote b 0 (number_line 82 n) r u
+  pub show_refused : (f : Refusal) → a ≡ notReady f → (n : ℕ) → n ≡ number f → Wrote b 0 (number_line 82 n) r u
       → Replied b (entries_line (node_at (store_of w) c)) (asked w z c done) r u w y
   unfolding line_of refusal_line
-  show-refused f e n q p = rw (← v.refuses f e done) (record { wrote = rw q at p; store = refl; scratch = refl })
+  show_refused f e n q p = rw (← v.refuses f e done) (record { wrote = rw q at p; store = refl; scratch = refl })
 
-  pub show-done : a ≡ ready → Wrote b 0 (entries_line (node_at (store_of w) c)) r u
+  pub show_done : a ≡ ready → Wrote b 0 (entries_line (node_at (store_of w) c)) r u
       → Replied b (entries_line (node_at (store_of w) c)) (asked w z c done) r u w y
   unfolding line_of
-  show-done e p = rw (← v.replies e done) (record { wrote = p; store = refl; scratch = refl })
+  show_done e p = rw (← v.replies e done) (record { wrote = p; store = refl; scratch = refl })

@@ -1,6 +1,6 @@
 // A record on the set is run.
 ghost use Rattle.std.specs.Prelude.{◌≡◌, length};
-ghost use Rattle.format.specs.Answers.{setCall};
+ghost use Rattle.format.specs.Answers.{set_call};
 ghost use Rattle.lines.specs.Lines.{line_bytes};
 ghost use Rattle.replies.specs.Replies.Laws.{Answered};
 ghost use Rattle.replies.specs.Replies.{call_of, lent};
@@ -22,7 +22,7 @@ pub fn run_set_record(
 ) -> usize
     requires { (length out.old ≡ line_bytes) × (length stops.now ≡ stop_length) }
     ensures { Answered out.old
-        (call_of (lent store.old set.old stops.now scratch.old) (setCall call))
+        (call_of (lent store.old set.old stops.now scratch.old) (set_call call))
         result out.new (lent store.new set.new stops.now scratch.new) }
 {
     match call {

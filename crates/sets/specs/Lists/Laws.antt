@@ -7,10 +7,10 @@ use mathlib.Core.List.{List, [], ◌∷◌, ◌++◌}
 use Rattle.sets.specs.Lists.{any, all}
 
 module _ {A : Type 0} (t : A → Bool) where
-  pub any-more : (xs : List A) (y : A) → any t (xs ++ (y ∷ [])) ≡ (any t xs || t y)
+  pub any_more : (xs : List A) (y : A) → any t (xs ++ (y ∷ [])) ≡ (any t xs || t y)
   unfolding any
-  any-more [] y = or-false (t y)
-  any-more (x ∷ xs) y = ap (λ (b : Bool). t x || b) (any-more xs y) ∙ sym (or_assoc (t x) (any t xs) (t y))
+  any_more [] y = or-false (t y)
+  any_more (x ∷ xs) y = ap (λ (b : Bool). t x || b) (any_more xs y) ∙ sym (or_assoc (t x) (any t xs) (t y))
 
   pub all_more : (xs : List A) (y : A) → all t (xs ++ (y ∷ [])) ≡ (all t xs && t y)
   unfolding all

@@ -130,6 +130,7 @@ goes_on A (x ∷ ρ) = goes_on (beneath A x) ρ
 
 nothing_else : (ρ : List ℕ) → BeginsWith [] ρ → ρ ≡ []
 nothing_else [] anything = refl
+nothing_else (_ ∷ _) p = elim p [ ]
 
 -- a stack of a side is lost where the other side ends at a shorter beginning of it
 ends_lost : {A B C : Stacks} → WildcardMerge A B C → (σ ρ : List ℕ) → BeginsWith σ ρ → (ρ ≡ σ → ⊥) → A σ ≡ true → EndsAt B ρ → C σ ≡ false
@@ -137,6 +138,7 @@ unfolding going_on
 ends_lost (swallowed h c) [] ρ p d e k = absurd (d (nothing_else ρ p))
 ends_lost (swallowed h c) (x ∷ σ) ρ p d e k = c.1 x σ
 ends_lost (merged n g l r b) σ [] p d e k = absurd (n (inr k))
+ends_lost (merged n g l r b) [] (_ ∷ ρ) p d e k = elim p [ ]
 ends_lost {B = B} (merged n g l r b) (x ∷ σ) (_ ∷ ρ) (below p) d e k =
     ends_lost (b x (σ, e) (ρ, sym (goes_on (beneath B x) ρ) ∙ k.0)) σ ρ p (λ q. d (ap (λ (τ : List ℕ). x ∷ τ) q)) e k
 

@@ -9,10 +9,10 @@ use Rattle.layout.specs.Layout.{blank, used, count as contexts}
 use Rattle.layout.specs.Encode.{put_counts, put_node, written, words_of}
 use Rattle.store.specs.Checks.Laws.{by_unless}
 use Rattle.store.specs.Calls.{Left, refusal, done, asked}
-use Rattle.store.specs.Calls.Laws.{refusal-store}
+use Rattle.store.specs.Calls.Laws.{refusal_store}
 use Rattle.sets.specs.Config.{Config}
 use Rattle.sets.specs.Calls.{SetLeft, add_call, close_call}
-use Rattle.sets.specs.Refusals.{refusal-keeps}
+use Rattle.sets.specs.Refusals.{refusal_keeps}
 use Rattle.interning.specs.SingletonCall.{singleton_call}
 use Rattle.interning.specs.Promises.{singleton_figure}
 use Rattle.contexts.specs.MergeCall.{merge_call}
@@ -22,66 +22,66 @@ use Rattle.format.specs.Format.{Record, singleton, merge, new_set, add, stops, v
 use Rattle.lines.specs.Lines.{numbers_line, end_line}
 use Rattle.replies.specs.Replies.{Lent, line_of, set_line_of, new_set_call, call_of}
 use Rattle.steps.specs.Steps.{most_bytes, fresh, goes, over, reading_step, step_of, run_from, run_of}
-use Rattle.steps.specs.Steps.Laws.{after?, run-over, run-next}
+use Rattle.steps.specs.Steps.Laws.{after?, run_over, run_next}
 use Rattle.steps.specs.ContextsMade.{made_by, sum_from, sum_of}
 
 module _ (l : Lent) where
   -- ---- what is printed is what was made: on a refusal's line the figure does not stand
 
-  pub singleton-prints : (p r : ℕ) → let call = call_of l (singleton p r) in call.reply ≡ line_of [] (made_by l call) (singleton_call l.store l.scratch p r).reply
+  pub singleton_prints : (p r : ℕ) → let call = call_of l (singleton p r) in call.reply ≡ line_of [] (made_by l call) (singleton_call l.store l.scratch p r).reply
   unfolding call_of
-  singleton-prints p r =
+  singleton_prints p r =
       let x = singleton_call l.store l.scratch p r in
       let e : x.made ≡ contexts x.store - contexts l.store = omega (arith, singleton_figure l.store l.scratch p r) in
       ap (λ (k : ℕ). line_of [] k x.reply) e
 
-  pub merge-prints : (a b : ℕ) (m : Bool) → let call = call_of l (merge a b m) in call.reply ≡ line_of [] (made_by l call) (merge_call l.store l.scratch a b m).reply
+  pub merge_prints : (a b : ℕ) (m : Bool) → let call = call_of l (merge a b m) in call.reply ≡ line_of [] (made_by l call) (merge_call l.store l.scratch a b m).reply
   unfolding call_of
-  merge-prints a b m =
+  merge_prints a b m =
       let x = merge_call l.store l.scratch a b m in
       let e : x.made ≡ contexts x.store - contexts l.store = omega (arith, merge_figure l.store l.scratch a b m) in
       ap (λ (k : ℕ). line_of [] k x.reply) e
 
-  pub add-prints : (x : Config) → let call = call_of l (add x) in call.reply ≡ set_line_of [] (made_by l call) (add_call l.store l.set l.scratch x).reply
+  pub add_prints : (x : Config) → let call = call_of l (add x) in call.reply ≡ set_line_of [] (made_by l call) (add_call l.store l.set l.scratch x).reply
   unfolding call_of
-  add-prints x =
+  add_prints x =
       let y = add_call l.store l.set l.scratch x in
       let e : y.made ≡ contexts y.store - contexts l.store = omega (arith, add_figure l.store l.set l.scratch x) in
       ap (λ (k : ℕ). set_line_of [] k y.reply) e
 
   -- ---- one step: no context goes
 
-  shown-store : (c : ℕ) → (asked l.store l.scratch c done).store ≡ l.store
+  shown_store : (c : ℕ) → (asked l.store l.scratch c done).store ≡ l.store
   unfolding asked
-  shown-store c = by_unless (refusal l.store l.scratch) _ (λ (x : Left). x.store ≡ l.store) (refusal-store l.store l.scratch) refl _
+  shown_store c = by_unless (refusal l.store l.scratch) _ (λ (x : Left). x.store ≡ l.store) (refusal_store l.store l.scratch) refl _
 
-  closed-store : (close_call l.store l.set l.scratch).store ≡ l.store
+  closed_store : (close_call l.store l.set l.scratch).store ≡ l.store
   unfolding close_call
-  closed-store = by_unless _ _ (λ (x : SetLeft). x.store ≡ l.store) (λ n. (refusal-keeps l.store l.set l.scratch n).0) refl _
+  closed_store = by_unless _ _ (λ (x : SetLeft). x.store ≡ l.store) (λ n. (refusal_keeps l.store l.set l.scratch n).0) refl _
 
-  call-keeps : (r : Record) → contexts l.store ≤ contexts (call_of l r).words.store
+  call_keeps : (r : Record) → contexts l.store ≤ contexts (call_of l r).words.store
   unfolding call_of new_set_call
-  call-keeps (singleton p r) = omega (arith, singleton_figure l.store l.scratch p r)
-  call-keeps (merge a b m) = omega (arith, merge_figure l.store l.scratch a b m)
-  call-keeps (new_set m) = omega arith
-  call-keeps (add x) = omega (arith, add_figure l.store l.set l.scratch x)
-  call-keeps (stops xs) = omega arith
-  call-keeps verdict = omega arith
-  call-keeps (show c) = omega (arith, ap contexts (shown-store c))
-  call-keeps close = omega (arith, ap contexts closed-store)
-  call-keeps why = omega arith
+  call_keeps (singleton p r) = omega (arith, singleton_figure l.store l.scratch p r)
+  call_keeps (merge a b m) = omega (arith, merge_figure l.store l.scratch a b m)
+  call_keeps (new_set m) = omega arith
+  call_keeps (add x) = omega (arith, add_figure l.store l.set l.scratch x)
+  call_keeps (stops xs) = omega arith
+  call_keeps verdict = omega arith
+  call_keeps (show c) = omega (arith, ap contexts (shown_store c))
+  call_keeps close = omega (arith, ap contexts closed_store)
+  call_keeps why = omega arith
 
-  reading-keeps : (x : Reading) → contexts l.store ≤ contexts (reading_step l x).printed.words.store
+  reading_keeps : (x : Reading) → contexts l.store ≤ contexts (reading_step l x).printed.words.store
   unfolding reading_step
-  reading-keeps (found r j) = call-keeps r
-  reading-keeps ended = omega arith
-  reading-keeps malformed = omega arith
+  reading_keeps (found r j) = call_keeps r
+  reading_keeps ended = omega arith
+  reading_keeps malformed = omega arith
 
-  reading-over : (x : Reading) → (reading_step l x).after ≡ over → (reading_step l x).printed.words.store ≡ l.store
+  reading_over : (x : Reading) → (reading_step l x).after ≡ over → (reading_step l x).printed.words.store ≡ l.store
   unfolding reading_step
-  reading-over (found r j) e = never (cc)
-  reading-over ended e = refl
-  reading-over malformed e = refl
+  reading_over (found r j) e = never (cc)
+  reading_over ended e = refl
+  reading_over malformed e = refl
 
 module _ (s : List ℕ) (i : ℕ) (l : Lent) where
   step_keeps : contexts l.store ≤ contexts (step_of s i l).printed.words.store
@@ -89,22 +89,22 @@ module _ (s : List ℕ) (i : ℕ) (l : Lent) where
   step_keeps =
       below? most_bytes (length s)
       (λ h. rw (lt-ltb most_bytes (length s) h, step_of) (omega arith))
-      (λ h. rw (le-ltb most_bytes (length s) h, step_of) (reading-keeps l (read_at s i)))
+      (λ h. rw (le-ltb most_bytes (length s) h, step_of) (reading_keeps l (read_at s i)))
 
-  step-over : (step_of s i l).after ≡ over → (step_of s i l).printed.words.store ≡ l.store
+  step_over : (step_of s i l).after ≡ over → (step_of s i l).printed.words.store ≡ l.store
   unfolding step_of
-  step-over q =
+  step_over q =
       below? most_bytes (length s)
       (λ h. rw (lt-ltb most_bytes (length s) h, step_of))
-      (λ h. rw (le-ltb most_bytes (length s) h, step_of) (reading-over l (read_at s i) (rw (le-ltb most_bytes (length s) h, step_of) at q)))
+      (λ h. rw (le-ltb most_bytes (length s) h, step_of) (reading_over l (read_at s i) (rw (le-ltb most_bytes (length s) h, step_of) at q)))
 
   sum_over : (k : ℕ) → (step_of s i l).after ≡ over → sum_from (suc k) s i l ≡ 0
   unfolding sum_from
   sum_over k q = rw (q, sum_from)
 
-  sum-next : (k j : ℕ) → (step_of s i l).after ≡ goes j → sum_from (suc k) s i l ≡ made_by l (step_of s i l).printed + sum_from k s j (step_of s i l).printed.words
+  sum_next : (k j : ℕ) → (step_of s i l).after ≡ goes j → sum_from (suc k) s i l ≡ made_by l (step_of s i l).printed + sum_from k s j (step_of s i l).printed.words
   unfolding sum_from
-  sum-next k j q = rw (q, sum_from)
+  sum_next k j q = rw (q, sum_from)
 
 -- ---- the sum
 
@@ -114,8 +114,8 @@ sum_from_lem zero s i l = omega arith
 sum_from_lem (suc k) s i l =
     let t = step_of s i l in
     after? t.after
-    (λ j q. rw (run-next s i l k j q) (omega (arith, sum-next s i l k j q, step_keeps s i l, sum_from_lem k s j t.printed.words)))
-    (λ q. rw (run-over s i l k q) (omega (arith, sum_over s i l k q, ap contexts (step-over s i l q))))
+    (λ j q. rw (run_next s i l k j q) (omega (arith, sum_next s i l k j q, step_keeps s i l, sum_from_lem k s j t.printed.words)))
+    (λ q. rw (run_over s i l k q) (omega (arith, sum_over s i l k q, ap contexts (step_over s i l q))))
 
 fresh_contexts : contexts fresh.store ≡ 1
 unfolding fresh contexts words_of written put_counts put_node blank

@@ -14,7 +14,7 @@ use Rattle.encoding.specs.Decide.Laws.{fits_true}
 use Rattle.work.specs.Counted.{Outcome, refused as over}
 use Rattle.work.specs.Counted.Laws.{is_too_much}
 use Rattle.store.specs.Checks.{Check, unless, due}
-use Rattle.store.specs.Checks.Laws.{Clear, absent, unless-first, unless-next, due-leaves, refused-due, clear_of, by_unless}
+use Rattle.store.specs.Checks.Laws.{Clear, absent, unless_first, unless_next, due_leaves, refused_due, clear_of, by_unless}
 use Rattle.store.specs.Calls.{refused, context, Left, zeros, refusal, wrong_length, unsound_store, unknown_context, no_room, too_much_work, gives_after, Accepts}
 
 -- ---- two outcomes that satisfy one contract are equal
@@ -25,17 +25,17 @@ determined x y z p q = cc
 -- ---- a refusal
 
 module _ (w z : List ℕ) (n : ℕ) where
-  pub refusal-reply : (refusal w z n).reply ≡ refused n
+  pub refusal_reply : (refusal w z n).reply ≡ refused n
   unfolding refusal
-  refusal-reply = two n 2 (λ e. rw (eq-eqb n 2 e, refusal)) (λ d. rw (ne_eqb n 2 d, refusal))
+  refusal_reply = two n 2 (λ e. rw (eq-eqb n 2 e, refusal)) (λ d. rw (ne_eqb n 2 d, refusal))
 
-  pub refusal-store : (refusal w z n).store ≡ w
+  pub refusal_store : (refusal w z n).store ≡ w
   unfolding refusal
-  refusal-store = two n 2 (λ e. rw (eq-eqb n 2 e, refusal)) (λ d. rw (ne_eqb n 2 d, refusal))
+  refusal_store = two n 2 (λ e. rw (eq-eqb n 2 e, refusal)) (λ d. rw (ne_eqb n 2 d, refusal))
 
-  pub refusal-made : (refusal w z n).made ≡ 0
+  pub refusal_made : (refusal w z n).made ≡ 0
   unfolding refusal
-  refusal-made = two n 2 (λ e. rw (eq-eqb n 2 e, refusal)) (λ d. rw (ne_eqb n 2 d, refusal))
+  refusal_made = two n 2 (λ e. rw (eq-eqb n 2 e, refusal)) (λ d. rw (ne_eqb n 2 d, refusal))
 
   pub refusal_scratch : (n ≡ 2 → (refusal w z n).scratch ≡ z) × ((n ≡ 2 → ⊥) → (refusal w z n).scratch ≡ zeros)
   unfolding refusal
@@ -54,15 +54,15 @@ not_context n c e = never (cc)
 
 module _ (w z : List ℕ) (cs : List Check) (go : Left) (answers : (n : ℕ) → go.reply ≡ refused n → ⊥) where
   -- the number n is given exactly when it is due: its reason holds and none earlier in the table
-  pub refused-exactly : (n : ℕ) → ((unless cs (refusal w z) go).reply ≡ refused n) ↔ (due cs ≡ at n)
-  refused-exactly n = (
-    refused-due (refusal w z) go (λ k x. x.reply ≡ refused k) (λ k m g. same_number k m (sym (refusal-reply w z m) ∙ g)) answers n cs,
-    λ d. ap (λ (x : Left). x.reply) (due-leaves (refusal w z) go n cs d) ∙ refusal-reply w z n,
+  pub refused_exactly : (n : ℕ) → ((unless cs (refusal w z) go).reply ≡ refused n) ↔ (due cs ≡ at n)
+  refused_exactly n = (
+    refused_due (refusal w z) go (λ k x. x.reply ≡ refused k) (λ k m g. same_number k m (sym (refusal_reply w z m) ∙ g)) answers n cs,
+    λ d. ap (λ (x : Left). x.reply) (due_leaves (refusal w z) go n cs d) ∙ refusal_reply w z n,
   )
 
   -- and changes nothing
-  pub refused-leaves : (n : ℕ) → (unless cs (refusal w z) go).reply ≡ refused n → unless cs (refusal w z) go ≡ refusal w z n
-  refused-leaves n e = due-leaves (refusal w z) go n cs ((refused-exactly n).0 e)
+  pub refused_leaves : (n : ℕ) → (unless cs (refusal w z) go).reply ≡ refused n → unless cs (refusal w z) go ≡ refusal w z n
+  refused_leaves n e = due_leaves (refusal w z) go n cs ((refused_exactly n).0 e)
 
 -- ---- "Scratch: .. all 0 on return": over slices of the right lengths, refused or not
 
@@ -72,19 +72,19 @@ no_two w z [] go a h = h
 no_two w z (c ∷ cs) go a h =
     bool? c.holds
     (λ e.
-    let n : eqb c.number 2 ≡ false = not-two (eqb c.number 2) (and_left _ _ a) in
-    ap (λ (x : Left). x.scratch) (unless-first (refusal w z) go c cs e) ∙ (refusal_scratch w z c.number).1 (eqb-false c.number 2 n))
-    (λ e. ap (λ (x : Left). x.scratch) (unless-next (refusal w z) go c cs e) ∙ no_two w z cs go (and_right (not (eqb c.number 2)) _ a) h)
+    let n : eqb c.number 2 ≡ false = not_two (eqb c.number 2) (and_left _ _ a) in
+    ap (λ (x : Left). x.scratch) (unless_first (refusal w z) go c cs e) ∙ (refusal_scratch w z c.number).1 (eqb-false c.number 2 n))
+    (λ e. ap (λ (x : Left). x.scratch) (unless_next (refusal w z) go c cs e) ∙ no_two w z cs go (and_right (not (eqb c.number 2)) _ a) h)
   where
-    not-two : (b : Bool) → not b ≡ true → b ≡ false
-    not-two true e = sym e
-    not-two false e = refl
+    not_two : (b : Bool) → not b ≡ true → b ≡ false
+    not_two true e = sym e
+    not_two false e = refl
 
 pub zero_after : (w z : List ℕ) (cs : List Check) (go : Left) → length w ≡ store_words → length z ≡ scratch_words → absent 2 cs ≡ true → go.scratch ≡ zeros
     → (unless (wrong_length w z ∷ cs) (refusal w z) go).scratch ≡ zeros
 zero_after w z cs go lw lz a h =
     let passed : (wrong_length w z).holds ≡ false = rw (eq-eqb (length w) store_words lw, eq-eqb (length z) scratch_words lz) in
-    ap (λ (x : Left). x.scratch) (unless-next (refusal w z) go (wrong_length w z) cs passed) ∙ no_two w z cs go a h
+    ap (λ (x : Left). x.scratch) (unless_next (refusal w z) go (wrong_length w z) cs passed) ∙ no_two w z cs go a h
 
 -- ---- an accepted call
 
@@ -92,7 +92,7 @@ zero_after w z cs go lw lz a h =
 passed_all : (w z : List ℕ) (cs : List Check) (n : ℕ) (s : Store) (x : ℕ × Store) (c : ℕ) (w' : List ℕ) → Accepts (unless cs (refusal w z) (gives_after n s x)) c w'
     → Clear cs × (unless cs (refusal w z) (gives_after n s x) ≡ gives_after n s x)
 passed_all w z cs n s x c w' a =
-    clear_of (refusal w z) (gives_after n s x) (λ m o. o.reply ≡ refused m) (refusal-reply w z) cs (λ m g. not_context m c (sym a.0 ∙ g))
+    clear_of (refusal w z) (gives_after n s x) (λ m o. o.reply ≡ refused m) (refusal_reply w z) cs (λ m g. not_context m c (sym a.0 ∙ g))
 
 -- the number and the words are those that it made
 pub accepted : (w z : List ℕ) (cs : List Check) (n : ℕ) (s : Store) (x : ℕ × Store) (c : ℕ) (w' : List ℕ) → Accepts (unless cs (refusal w z) (gives_after n s x)) c w'
@@ -118,7 +118,7 @@ pub made_exactly : (w z : List ℕ) (cs : List Check) (n : ℕ) (s : Store) (x :
 made_exactly w z cs n s x h =
     let call = unless cs (refusal w z) (gives_after n s x) in
     by_unless (refusal w z) (gives_after n s x) (λ (l : Left). call ≡ l → contexts w + l.made ≡ contexts l.store)
-    (λ m e. rw (refusal-made w z m, refusal-store w z m) (omega arith))
+    (λ m e. rw (refusal_made w z m, refusal_store w z m) (omega arith))
     (λ e. h (ap (λ (l : Left). l.reply) e, ap (λ (l : Left). l.store) e))
     cs refl
 
@@ -132,19 +132,19 @@ not_false true e = refl
 not_false false e = sym e
 
 module _ (w z : List ℕ) where
-  pub right-lengths : (wrong_length w z).holds ≡ false → (length w ≡ store_words) × (length z ≡ scratch_words)
-  right-lengths e =
+  pub right_lengths : (wrong_length w z).holds ≡ false → (length w ≡ store_words) × (length z ≡ scratch_words)
+  right_lengths e =
       let t = not_false _ e in
       (eqb-true (length w) store_words (and_left _ _ t), eqb-true (length z) scratch_words (and_right (eqb (length w) store_words) _ t))
 
-  pub is-sound : (unsound_store w).holds ≡ false → sound w ≡ true
-  is-sound e = not_false (sound w) e
+  pub is_sound : (unsound_store w).holds ≡ false → sound w ≡ true
+  is_sound e = not_false (sound w) e
 
   pub is_known : (c : ℕ) → (unknown_context w c).holds ≡ false → c < contexts w
   is_known c e = ltb-true c (contexts w) (not_false _ e)
 
-  pub both-known : (a b : ℕ) → not (ltb a (contexts w) && ltb b (contexts w)) ≡ false → (a < contexts w) × (b < contexts w)
-  both-known a b e =
+  pub both_known : (a b : ℕ) → not (ltb a (contexts w) && ltb b (contexts w)) ≡ false → (a < contexts w) × (b < contexts w)
+  both_known a b e =
       let t = not_false _ e in
       (ltb-true a (contexts w) (and_left _ _ t), ltb-true b (contexts w) (and_right (ltb a (contexts w)) _ t))
 

@@ -42,44 +42,44 @@ number_of : (m n : ℕ) → at m ≡ at n → m ≡ n
 number_of m n e = cc
 
 module _ {ℓ} {A : Type ℓ} (refuse : ℕ → A) (go : A) where
-  pub unless-first : (c : Check) (cs : List Check) → c.holds ≡ true → unless (c ∷ cs) refuse go ≡ refuse c.number
+  pub unless_first : (c : Check) (cs : List Check) → c.holds ≡ true → unless (c ∷ cs) refuse go ≡ refuse c.number
   unfolding unless
-  unless-first c cs e = rw (e, unless)
+  unless_first c cs e = rw (e, unless)
 
-  pub unless-next : (c : Check) (cs : List Check) → c.holds ≡ false → unless (c ∷ cs) refuse go ≡ unless cs refuse go
+  pub unless_next : (c : Check) (cs : List Check) → c.holds ≡ false → unless (c ∷ cs) refuse go ≡ unless cs refuse go
   unfolding unless
-  unless-next c cs e = rw (e, unless)
+  unless_next c cs e = rw (e, unless)
 
   -- no reason holds: the call goes on with the checks that follow
-  pub clear-goes : (cs more : List Check) → Clear cs → unless (cs ++ more) refuse go ≡ unless more refuse go
-  clear-goes [] more v = refl
-  clear-goes (c ∷ cs) more v = unless-next c (cs ++ more) v.0 ∙ clear-goes cs more v.1
+  pub clear_goes : (cs more : List Check) → Clear cs → unless (cs ++ more) refuse go ≡ unless more refuse go
+  clear_goes [] more v = refl
+  clear_goes (c ∷ cs) more v = unless_next c (cs ++ more) v.0 ∙ clear_goes cs more v.1
 
   -- a refusal that is due is given, whatever follows
-  pub due-given : (n : ℕ) (cs more : List Check) → Due n cs → unless (cs ++ more) refuse go ≡ refuse n
-  due-given n (c ∷ cs) more d =
+  pub due_given : (n : ℕ) (cs more : List Check) → Due n cs → unless (cs ++ more) refuse go ≡ refuse n
+  due_given n (c ∷ cs) more d =
       bool? (eqb c.number n)
-      (λ e. unless-first c (cs ++ more) (here n c cs e d) ∙ ap refuse (eqb-true c.number n e))
-      (λ e. let r = later n c cs e d in unless-next c (cs ++ more) r.0 ∙ due-given n cs more r.1)
+      (λ e. unless_first c (cs ++ more) (here n c cs e d) ∙ ap refuse (eqb-true c.number n e))
+      (λ e. let r = later n c cs e d in unless_next c (cs ++ more) r.0 ∙ due_given n cs more r.1)
 
   -- what is left where n is due
-  pub due-leaves : (n : ℕ) (cs : List Check) → due cs ≡ at n → unless cs refuse go ≡ refuse n
+  pub due_leaves : (n : ℕ) (cs : List Check) → due cs ≡ at n → unless cs refuse go ≡ refuse n
   unfolding unless
-  due-leaves n [] e = absurd (no_number n e)
-  due-leaves n (c ∷ cs) e =
+  due_leaves n [] e = absurd (no_number n e)
+  due_leaves n (c ∷ cs) e =
       bool? c.holds
-      (λ t. unless-first c cs t ∙ ap refuse (number_of c.number n (rw (t, unless) at e)))
-      (λ f. unless-next c cs f ∙ due-leaves n cs (rw (f, unless) at e))
+      (λ t. unless_first c cs t ∙ ap refuse (number_of c.number n (rw (t, unless) at e)))
+      (λ f. unless_next c cs f ∙ due_leaves n cs (rw (f, unless) at e))
 
   -- and only then: G n says of an outcome that it is the refusal n
   module _ (G : ℕ → A → Type 0) (one : (n m : ℕ) → G n (refuse m) → m ≡ n) (none : (n : ℕ) → G n go → ⊥) where
-    pub refused-due : (n : ℕ) (cs : List Check) → G n (unless cs refuse go) → due cs ≡ at n
+    pub refused_due : (n : ℕ) (cs : List Check) → G n (unless cs refuse go) → due cs ≡ at n
     unfolding unless
-    refused-due n [] g = absurd (none n g)
-    refused-due n (c ∷ cs) g =
+    refused_due n [] g = absurd (none n g)
+    refused_due n (c ∷ cs) g =
         bool? c.holds
-        (λ e. rw (e, unless) (ap at (one n c.number (subst (G n) (unless-first c cs e) g))))
-        (λ e. rw (e, unless) (refused-due n cs (subst (G n) (unless-next c cs e) g)))
+        (λ e. rw (e, unless) (ap at (one n c.number (subst (G n) (unless_first c cs e) g))))
+        (λ e. rw (e, unless) (refused_due n cs (subst (G n) (unless_next c cs e) g)))
 
   -- an outcome that is no refusal has passed all checks
   pub clear_of : (G : ℕ → A → Type 0) → ((n : ℕ) → G n (refuse n)) → (cs : List Check) → ((n : ℕ) → G n (unless cs refuse go) → ⊥)
@@ -88,9 +88,9 @@ module _ {ℓ} {A : Type ℓ} (refuse : ℕ → A) (go : A) where
   clear_of G r [] h = (tt, refl)
   clear_of G r (c ∷ cs) h =
       bool? c.holds
-      (λ e. absurd (h c.number (subst (G c.number) (sym (unless-first c cs e)) (r c.number))))
+      (λ e. absurd (h c.number (subst (G c.number) (sym (unless_first c cs e)) (r c.number))))
       (λ e.
-      let q = unless-next c cs e in
+      let q = unless_next c cs e in
       let k = clear_of G r cs (λ n g. h n (subst (G n) (sym q) g)) in
       ((e, k.0), q ∙ k.1))
 
@@ -100,22 +100,22 @@ unfolding unless
 by_unless refuse go P r g [] = g
 by_unless refuse go P r g (c ∷ cs) =
     bool? c.holds
-    (λ e. subst P (sym (unless-first refuse go c cs e)) (r c.number))
-    (λ e. subst P (sym (unless-next refuse go c cs e)) (by_unless refuse go P r g cs))
+    (λ e. subst P (sym (unless_first refuse go c cs e)) (r c.number))
+    (λ e. subst P (sym (unless_next refuse go c cs e)) (by_unless refuse go P r g cs))
 
 -- an outcome that is no refusal has passed all checks
 module _ {ℓ} {A : Type ℓ} (refuse : ℕ → A) (go : A) (G : A → Type 0) (none : (n : ℕ) → G (refuse n) → ⊥) where
-  pub passed-clear : (cs : List Check) → G (unless cs refuse go) → Clear cs
-  passed-clear [] g = tt
-  passed-clear (c ∷ cs) g =
+  pub passed_clear : (cs : List Check) → G (unless cs refuse go) → Clear cs
+  passed_clear [] g = tt
+  passed_clear (c ∷ cs) g =
       bool? c.holds
-      (λ e. absurd (none c.number (subst G (unless-first refuse go c cs e) g)))
-      (λ e. (e, passed-clear cs (subst G (unless-next refuse go c cs e) g)))
+      (λ e. absurd (none c.number (subst G (unless_first refuse go c cs e) g)))
+      (λ e. (e, passed_clear cs (subst G (unless_next refuse go c cs e) g)))
 
 pub clear_passed {ℓ} : {A : Type ℓ} (refuse : ℕ → A) (go : A) (cs : List Check) → Clear cs → unless cs refuse go ≡ go
 unfolding unless
 clear_passed refuse go [] v = refl
-clear_passed refuse go (c ∷ cs) v = unless-next refuse go c cs v.0 ∙ clear_passed refuse go cs v.1
+clear_passed refuse go (c ∷ cs) v = unless_next refuse go c cs v.0 ∙ clear_passed refuse go cs v.1
 
 -- ---- the order of checking
 

@@ -8,7 +8,7 @@ use lib.ListN.{length}
 use Rattle.lines.specs.Laid.Laws.{wrote_length}
 use Rattle.replies.specs.Replies.{Lent, lent}
 use Rattle.steps.specs.Made.{Step, step_is}
-use Rattle.trace.specs.Traced.Laws.{Stands, stands_start, stands_stopped, stands-forward, stands-next, stands-over}
+use Rattle.trace.specs.Traced.Laws.{Stands, stands_start, stands_stopped, stands_forward, stands_next, stands_over}
 use Rattle.trace.proofs.run_script.Statement.{statement}
 use Rattle.trace.proofs.run_script.Tie as tie
 
@@ -49,21 +49,21 @@ returns c =
     let loop = c.before.before.before.before.before.before.before.before.before.before.before.before.before.loop in
     let ran = c.before.before.before.before.before.ran in
     let at-run-step = c.before.before.before.before.before.before.before in
-    stands_stopped (stands-next loop.invariant (rw ran.given.1 at (stepped at-run-step)) ran.given.0.1.0 refl)
+    stands_stopped (stands_next loop.invariant (rw ran.given.1 at (stepped at-run-step)) ran.given.0.1.0 refl)
 
 loop-less : tie.Need-loop-smaller invariant-loop decreases-loop
 loop-less c =
     let loop = c.before.before.before.before.before.before.before.before.before.before.before.before.before.loop in
     let ran = c.before.before.before.before.before.ran in
     let at-run-step = c.before.before.before.before.before.before.before in
-    omega (arith, stands-forward loop.invariant (rw ran.given.1 at (stepped at-run-step)) ran.given.0.1.0 refl)
+    omega (arith, stands_forward loop.invariant (rw ran.given.1 at (stepped at-run-step)) ran.given.0.1.0 refl)
 
 loop-again : tie.Need-loop-preserved invariant-loop decreases-loop
 loop-again c =
     let loop = c.before.before.before.before.before.before.before.before.before.before.before.before.before.loop in
     let ran = c.before.before.before.before.before.ran in
     let at-run-step = c.before.before.before.before.before.before.before in
-    stands-next loop.invariant (rw ran.given.1 at (stepped at-run-step)) ran.given.0.1.0 refl
+    stands_next loop.invariant (rw ran.given.1 at (stepped at-run-step)) ran.given.0.1.0 refl
 
 write-reply-requires-2 : tie.Need-write-reply-requires-2 invariant-loop decreases-loop
 write-reply-requires-2 c κs =
@@ -76,7 +76,7 @@ returns-2 c =
     let loop = c.before.before.before.before.before.before.before.before.before.before.before.before.before.loop in
     let ran2 = c.before.before.before.before.before.ran2 in
     let at-run-step = c.before.before.before.before.before.before.before in
-    stands-over loop.invariant (rw ran2.given.1 at (stepped at-run-step)) refl false
+    stands_over loop.invariant (rw ran2.given.1 at (stepped at-run-step)) refl false
 
 write-reply-requires-3 : tie.Need-write-reply-requires-3 invariant-loop decreases-loop
 write-reply-requires-3 c κs =
@@ -89,7 +89,7 @@ returns-3 c =
     let loop = back.before.before.before.before.before.before.before.loop in
     let ran2 = c.before.before.before.before.before.before.before.before.before.before.before.ran2 in
     let at-run-step = back.before in
-    stands-over loop.invariant (rw ran2.given.1 at (stepped at-run-step)) refl c.write-reply3.result
+    stands_over loop.invariant (rw ran2.given.1 at (stepped at-run-step)) refl c.write-reply3.result
 
 pub run-script-spec : {M : Type 1} → statement M
 run-script-spec =

@@ -13,23 +13,23 @@ use Rattle.cases.specs.Bools.{and_both}
 -- ---- the elements of a `paste`
 
 module _ (d : List ℕ) (at : ℕ) (s : List ℕ) (n : ℕ) (fits : at + n ≤ length d) (enough : n ≤ length s) where
-  pub getD-paste-before : (j : ℕ) → j < at → slice_index (paste d at s n) j ≡ slice_index d j
-  getD-paste-before j h =
+  pub get_or_paste_before : (j : ℕ) → j < at → slice_index (paste d at s n) j ≡ slice_index d j
+  get_or_paste_before j h =
       let head : length (take at d) ≡ at = length-take-le at d (omega arith) in
       get_or-append (take at d ++ take n s) (drop (at + n) d) 0 j (omega (arith, length_paste_head d at s n (omega arith) enough))
       ∙ get_or-append (take at d) (take n s) 0 j (omega arith)
       ∙ get_or-take at d j 0 h
 
-  pub getD-paste-inside : (j : ℕ) → j < n → slice_index (paste d at s n) (at + j) ≡ slice_index s j
-  getD-paste-inside j h =
+  pub get_or_paste_inside : (j : ℕ) → j < n → slice_index (paste d at s n) (at + j) ≡ slice_index s j
+  get_or_paste_inside j h =
       let head : length (take at d) ≡ at = length-take-le at d (omega arith) in
       get_or-append (take at d ++ take n s) (drop (at + n) d) 0 (at + j) (omega (arith, length_paste_head d at s n (omega arith) enough))
       ∙ ap (λ (k : ℕ). slice_index (take at d ++ take n s) (k + j)) (sym head)
       ∙ get_or-append-add (take at d) (take n s) j 0
       ∙ get_or-take n s j 0 h
 
-  pub getD-paste-after : (j : ℕ) → at + n ≤ j → slice_index (paste d at s n) j ≡ slice_index d j
-  getD-paste-after j h =
+  pub get_or_paste_after : (j : ℕ) → at + n ≤ j → slice_index (paste d at s n) j ≡ slice_index d j
+  get_or_paste_after j h =
       let k : ℕ = j - (at + n) in
       let e : j ≡ at + n + k = omega arith in
       let head : length (take at d ++ take n s) ≡ at + n = length_paste_head d at s n (omega arith) enough in
@@ -93,50 +93,50 @@ module _ (ws : List ℕ) (from to : ℕ) (h : from ≤ to) (k : to ≤ length ws
   enough : to - from ≤ length (blank (length ws))
   enough = omega (arith, length_blank (length ws))
 
-  pub length-clearedRange : length (cleared_range ws from to) ≡ length ws
-  length-clearedRange = ap length (cleared_paste ws from to h k) ∙ length-paste ws from (blank (length ws)) (to - from) (omega arith) enough
+  pub length_cleared_range : length (cleared_range ws from to) ≡ length ws
+  length_cleared_range = ap length (cleared_paste ws from to h k) ∙ length-paste ws from (blank (length ws)) (to - from) (omega arith) enough
 
-  pub clearedRange-before : (j : ℕ) → j < from → slice_index (cleared_range ws from to) j ≡ slice_index ws j
-  clearedRange-before j p =
+  pub cleared_range_before : (j : ℕ) → j < from → slice_index (cleared_range ws from to) j ≡ slice_index ws j
+  cleared_range_before j p =
       ap (λ (t : List ℕ). slice_index t j) (cleared_paste ws from to h k)
-      ∙ getD-paste-before ws from (blank (length ws)) (to - from) (omega arith) enough j p
+      ∙ get_or_paste_before ws from (blank (length ws)) (to - from) (omega arith) enough j p
 
-  pub clearedRange-inside : (j : ℕ) → from ≤ j → j < to → slice_index (cleared_range ws from to) j ≡ 0
-  clearedRange-inside j p q =
+  pub cleared_range_inside : (j : ℕ) → from ≤ j → j < to → slice_index (cleared_range ws from to) j ≡ 0
+  cleared_range_inside j p q =
       let zs : List ℕ = blank (length ws) in
       let i : ℕ = j - from in
       let e : j ≡ from + i = omega arith in
       ap (λ (t : List ℕ). slice_index t j) (cleared_paste ws from to h k)
       ∙ ap (λ (m : ℕ). slice_index (paste ws from zs (to - from)) m) e
-      ∙ getD-paste-inside ws from zs (to - from) (omega arith) enough i (omega arith)
+      ∙ get_or_paste_inside ws from zs (to - from) (omega arith) enough i (omega arith)
       ∙ get_or-replicate (length ws) i 0 0 (omega arith)
 
-  pub clearedRange-after : (j : ℕ) → to ≤ j → slice_index (cleared_range ws from to) j ≡ slice_index ws j
-  clearedRange-after j p =
+  pub cleared_range_after : (j : ℕ) → to ≤ j → slice_index (cleared_range ws from to) j ≡ slice_index ws j
+  cleared_range_after j p =
       ap (λ (t : List ℕ). slice_index t j) (cleared_paste ws from to h k)
-      ∙ getD-paste-after ws from (blank (length ws)) (to - from) (omega arith) enough j (omega arith)
+      ∙ get_or_paste_after ws from (blank (length ws)) (to - from) (omega arith) enough j (omega arith)
 
 -- ---- copied words
 
 module _ (target : List ℕ) (at : ℕ) (source : List ℕ) (from count : ℕ) (fits : at + count ≤ length target) (enough : from + count ≤ length source) where
-  rest-enough : count ≤ length (drop from source)
-  rest-enough = omega (arith, length-drop from source)
+  rest_enough : count ≤ length (drop from source)
+  rest_enough = omega (arith, length-drop from source)
 
-  pub length-copiedRange : length (copied_range target at source from count) ≡ length target
+  pub length_copied_range : length (copied_range target at source from count) ≡ length target
   unfolding copied_range
-  length-copiedRange = length-paste target at (drop from source) count fits rest-enough
+  length_copied_range = length-paste target at (drop from source) count fits rest_enough
 
-  pub copiedRange-before : (j : ℕ) → j < at → slice_index (copied_range target at source from count) j ≡ slice_index target j
+  pub copied_range_before : (j : ℕ) → j < at → slice_index (copied_range target at source from count) j ≡ slice_index target j
   unfolding copied_range
-  copiedRange-before j h = getD-paste-before target at (drop from source) count fits rest-enough j h
+  copied_range_before j h = get_or_paste_before target at (drop from source) count fits rest_enough j h
 
-  pub copiedRange-inside : (j : ℕ) → j < count → slice_index (copied_range target at source from count) (at + j) ≡ slice_index source (from + j)
+  pub copied_range_inside : (j : ℕ) → j < count → slice_index (copied_range target at source from count) (at + j) ≡ slice_index source (from + j)
   unfolding copied_range
-  copiedRange-inside j h = getD-paste-inside target at (drop from source) count fits rest-enough j h ∙ get_or-drop from source j 0
+  copied_range_inside j h = get_or_paste_inside target at (drop from source) count fits rest_enough j h ∙ get_or-drop from source j 0
 
-  pub copiedRange-after : (j : ℕ) → at + count ≤ j → slice_index (copied_range target at source from count) j ≡ slice_index target j
+  pub copied_range_after : (j : ℕ) → at + count ≤ j → slice_index (copied_range target at source from count) j ≡ slice_index target j
   unfolding copied_range
-  copiedRange-after j h = getD-paste-after target at (drop from source) count fits rest-enough j h
+  copied_range_after j h = get_or_paste_after target at (drop from source) count fits rest_enough j h
 
 pub copied_range_none : (target : List ℕ) (at : ℕ) (source : List ℕ) (from : ℕ) → copied_range target at source from 0 ≡ target
 unfolding copied_range
@@ -210,16 +210,16 @@ all_zero_of ws from to f =
 -- words that are 0 already are not changed by clearing
 pub cleared_range_same : (ws : List ℕ) (from to : ℕ) → from ≤ to → to ≤ length ws → all_zero ws from to ≡ true → cleared_range ws from to ≡ ws
 cleared_range_same ws from to h k e =
-    ext_get_or 0 (cleared_range ws from to) ws (length-clearedRange ws from to h k)
+    ext_get_or 0 (cleared_range ws from to) ws (length_cleared_range ws from to h k)
     (λ j l.
     elim (dec_le from j) [
-      | no n ↦ clearedRange-before ws from to h k j (lt_of_not-le n)
+      | no n ↦ cleared_range_before ws from to h k j (lt_of_not-le n)
       | yes p ↦ elim (dec_le to j) [
-        | yes q ↦ clearedRange-after ws from to h k j q
-        | no m ↦ clearedRange-inside ws from to h k j p (lt_of_not-le m) ∙ sym (all_zero_at ws from to e j p (lt_of_not-le m))
+        | yes q ↦ cleared_range_after ws from to h k j q
+        | no m ↦ cleared_range_inside ws from to h k j p (lt_of_not-le m) ∙ sym (all_zero_at ws from to e j p (lt_of_not-le m))
       ]
     ])
 
 -- cleared words are 0
 pub all_zero_cleared : (ws : List ℕ) (from to : ℕ) → from ≤ to → to ≤ length ws → all_zero (cleared_range ws from to) from to ≡ true
-all_zero_cleared ws from to h k = all_zero_of (cleared_range ws from to) from to (clearedRange-inside ws from to h k)
+all_zero_cleared ws from to h k = all_zero_of (cleared_range ws from to) from to (cleared_range_inside ws from to h k)

@@ -12,14 +12,14 @@ unfolding id_of
 id_of_below w = omega arith
 
 module _ (kept other : ℕ) where
-  pub idOf-merged : id_of (merged_marks kept other) ≡ id_of kept
+  pub id_of_merged : id_of (merged_marks kept other) ≡ id_of kept
   unfolding id_of mark_of merged_marks
-  idOf-merged = omega arith
+  id_of_merged = omega arith
 
-  pub markOf-merged : mark_of (merged_marks kept other) ≡ max (mark_of kept) (mark_of other)
+  pub mark_of_merged : mark_of (merged_marks kept other) ≡ max (mark_of kept) (mark_of other)
   unfolding id_of mark_of merged_marks
-  markOf-merged = omega arith
+  mark_of_merged = omega arith
 
-  pub merged-below : kept < 2 ^ 32 → other < 2 ^ 32 → merged_marks kept other < 2 ^ 32
+  pub merged_below : kept < 2 ^ 32 → other < 2 ^ 32 → merged_marks kept other < 2 ^ 32
   unfolding id_of mark_of merged_marks
-  merged-below h k = omega arith
+  merged_below h k = omega arith

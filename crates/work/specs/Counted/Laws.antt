@@ -29,17 +29,17 @@ by_sides P a b p q =
     (λ h. rw (min-eq_right h, max-eq_left h) q)
 
 module _ (inner : Merge) (t : State) (r p : ℕ) (n : Node) (q o : ℕ) (k : Node) where
-  pub walk-less : r < q → walk inner t (push r p n) (push q o k) ≡ before r p (walk inner t n (push q o k))
+  pub walk_less : r < q → walk inner t (push r p n) (push q o k) ≡ before r p (walk inner t n (push q o k))
   unfolding walk
-  walk-less h = rw (lt-ltb r q h, walk)
+  walk_less h = rw (lt-ltb r q h, walk)
 
-  pub walk-greater : q < r → walk inner t (push r p n) (push q o k) ≡ before q o (walk inner t (push r p n) k)
+  pub walk_greater : q < r → walk inner t (push r p n) (push q o k) ≡ before q o (walk inner t (push r p n) k)
   unfolding walk
-  walk-greater h = rw (le-ltb r q (omega arith), lt-ltb q r h, walk)
+  walk_greater h = rw (le-ltb r q (omega arith), lt-ltb q r h, walk)
 
-  pub walk-equal : r ≡ q → walk inner t (push r p n) (push q o k) ≡ and_then ℕ Node (inner t p o) (λ c u. before r c (walk inner u n k))
+  pub walk_equal : r ≡ q → walk inner t (push r p n) (push q o k) ≡ and_then ℕ Node (inner t p o) (λ c u. before r c (walk inner u n k))
   unfolding walk
-  walk-equal h = rw (le-ltb r q (omega arith), le-ltb q r (omega arith), walk)
+  walk_equal h = rw (le-ltb r q (omega arith), le-ltb q r (omega arith), walk)
 
 -- ---- too much work is refusal 12
 

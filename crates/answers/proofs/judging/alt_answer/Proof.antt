@@ -1,7 +1,7 @@
 -- By cases.
 use borrow.Author.Rules.{rules}
 use mathlib.Core.Path.{refl}
-use Rattle.answers.specs.Answers.Laws.{refused-alt-answer}
+use Rattle.answers.specs.Answers.Laws.{refused_alt_answer}
 use Rattle.answers.specs.VerdictAnswers.{alt_answer_of}
 use Rattle.answers.proofs.judging.alt_answer.Statement.{statement}
 use Rattle.answers.proofs.judging.alt_answer.Tie as tie
@@ -17,7 +17,7 @@ returns-2 c = rw c.enum_told.given.1 refl
 returns-3 : tie.Need-returns-3
 returns-3 c =
     let answer2 = c.before.before.answer2 in
-    rw answer2.given.1 (refused-alt-answer answer2.given.0.0 c.refusal-entry.result c.refusal-entry.ensures.0 c.refusal-entry.ensures.1 c.refusal-entry.ensures.2)
+    rw answer2.given.1 (refused_alt_answer answer2.given.0.0 c.refusal-entry.result c.refusal-entry.ensures.0 c.refusal-entry.ensures.1 c.refusal-entry.ensures.2)
 
 pub alt-answer-spec : {M : Type 1} → statement M
 alt-answer-spec =

@@ -2,7 +2,7 @@
 use borrow.Author.Rules.{rules}
 use mathlib.Core.Path.{refl}
 use Rattle.answers.specs.VerdictAnswers.{alt_answer_of}
-use Rattle.answers.specs.Answers.Laws.{refused-verdict-answer}
+use Rattle.answers.specs.Answers.Laws.{refused_verdict_answer}
 use Rattle.answers.proofs.judging.decided_answer.Statement.{statement}
 use Rattle.answers.proofs.judging.decided_answer.Tie as tie
 
@@ -18,7 +18,7 @@ returns-3 : tie.Need-returns-3
 returns-3 c =
     let answer = c.before.before.answer in
     let given = c.refusal-answer in
-    rw answer.given.1 (refused-verdict-answer answer.given.0.0 given.result given.ensures.0 given.ensures.1)
+    rw answer.given.1 (refused_verdict_answer answer.given.0.0 given.result given.ensures.0 given.ensures.1)
 
 pub decided-answer-spec : {M : Type 1} → statement M
 decided-answer-spec =

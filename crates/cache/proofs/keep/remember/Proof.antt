@@ -1,8 +1,8 @@
--- A result is put in front of its chain, by `put-remembered`; else as many are kept as are to be.
+-- A result is put in front of its chain, by `put_remembered`; else as many are kept as are to be.
 use borrow.Author.Rules.{rules}
 use native.Mathlib.Omega.{arith}
 use Rattle.cache.specs.Cache.{kept_count}
-use Rattle.cache.specs.Keeping.{none-remembered, put-remembered}
+use Rattle.cache.specs.Keeping.{none_remembered, put_remembered}
 use Rattle.cache.proofs.keep.remember.Statement.{statement}
 use Rattle.cache.proofs.keep.remember.Tie as tie
 
@@ -11,7 +11,7 @@ unfolding kept_count
 returns c =
     let entry = c.before.before.before in
     let given = entry.args in
-    none-remembered given.scratch.now given.root-is-wildcard given.left.0 given.right.0 given.result.0 entry.requires.0
+    none_remembered given.scratch.now given.root-is-wildcard given.left.0 given.right.0 given.result.0 entry.requires.0
     entry.requires.1 (omega (arith, c.if1.true))
 
 returns-2 : tie.Need-returns-2
@@ -21,7 +21,7 @@ returns-2 c =
     let key = c.before.before.before.before.merge-key in
     let given = entry.args in
     rw c.before.before.put-result.ensures
-    (put-remembered given.scratch.now given.root-is-wildcard given.left.0 given.right.0 given.result.0 entry.requires.0
+    (put_remembered given.scratch.now given.root-is-wildcard given.left.0 given.right.0 given.result.0 entry.requires.0
     entry.requires.1 key.result key.ensures.0 key.ensures.1 (omega (arith, c.before.before.before.before.before.if1.false)))
 
 pub remember-spec : {M : Type 1} → statement M

@@ -4,7 +4,7 @@ use native.Mathlib.Omega.{arith}
 use mathlib.Core.Path.{◌≡◌, sym, ◌∙◌}
 use Rattle.store.specs.declared.inner.admit.Admitted.TheVariants.{Ready as ready, Refused}
 use Rattle.setcheck.specs.Configs.{config_of}
-use Rattle.configs.specs.Adds.{add-refused, add-closed, add-unknown, add-addable, add_done}
+use Rattle.configs.specs.Adds.{add_refused, add_closed, add_unknown, add_addable, add_done}
 use Rattle.configs.proofs.adding.add.Statement.{statement}
 use Rattle.configs.proofs.adding.add.Tie as tie
 
@@ -13,7 +13,7 @@ returns c =
     let open-set = c.before.before.before.before.before.open-set in
     let args = c.before.before.before.before.before.before.before.before.before.before.before.before.args in
     let e : open-set.result ≡ Refused c.before.opened.given.0.0 = cc in
-    add-refused args.store.now args.set.now args.scratch.now open-set.new.1.1.0 (config_of args.config) c.before.opened.given.0.0 (rw e at open-set.ensures)
+    add_refused args.store.now args.set.now args.scratch.now open-set.new.1.1.0 (config_of args.config) c.before.opened.given.0.0 (rw e at open-set.ensures)
 
 has-flag-requires : tie.Need-has-flag-requires
 has-flag-requires c κs =
@@ -31,7 +31,7 @@ returns-2 c =
     let if1 = c.before.before.before.before.if1 in
     let clear = c.before.before.clear in
     let e : open-set.result ≡ ready = enum_told.given.1 in
-    add-closed args.store.now args.set.now args.scratch.now open-set.new.1.1.0 (config_of args.config) (rw e at open-set.ensures)
+    add_closed args.store.now args.set.now args.scratch.now open-set.new.1.1.0 (config_of args.config) (rw e at open-set.ensures)
     (sym has-flag.ensures ∙ if1.true) clear.new.0 clear.ensures
 
 count-of-requires : tie.Need-count-of-requires
@@ -53,7 +53,7 @@ returns-3 c =
     let if2 = c.before.before.before.before.if2 in
     let clear2 = c.before.before.clear2 in
     let e : open-set.result ≡ ready = enum_told.given.1 in
-    add-unknown args.store.now args.set.now args.scratch.now open-set.new.1.1.0 (config_of args.config) (rw e at open-set.ensures)
+    add_unknown args.store.now args.set.now args.scratch.now open-set.new.1.1.0 (config_of args.config) (rw e at open-set.ensures)
     (sym has-flag.ensures ∙ if1.false) (rw count_of.ensures at if2.true) clear2.new.0 clear2.ensures
 
 add-known-requires : tie.Need-add-known-requires
@@ -67,7 +67,7 @@ add-known-requires c κs =
     let count_of = c.before.before.before.before.before.count_of in
     let if2 = c.before.before.before.if2 in
     let e : open-set.result ≡ ready = enum_told.given.1 in
-    add-addable args.store.now args.set.now args.scratch.now open-set.new.1.1.0 (config_of args.config) (rw e at open-set.ensures)
+    add_addable args.store.now args.set.now args.scratch.now open-set.new.1.1.0 (config_of args.config) (rw e at open-set.ensures)
     (sym has-flag.ensures ∙ if1.false) (rw count_of.ensures at if2.false)
 
 returns-4 : tie.Need-returns-4

@@ -3,7 +3,7 @@ use borrow.Author.Rules.{rules}
 use mathlib.Core.Path.{◌≡◌, sym, ap, ◌∙◌}
 use Rattle.setcheck.specs.Keys.{place_of}
 use Rattle.setcheck.specs.declared.inner.keys.KeyPlace.TheVariants.{At}
-use Rattle.configs.specs.Adds.{add-sought, add_holds, add-joinable, add_at, add-last}
+use Rattle.configs.specs.Adds.{add_sought, add_holds, add_joinable, add_at, add_last}
 use Rattle.configs.proofs.adding.add_known.Statement.{statement}
 use Rattle.configs.proofs.adding.add_known.Tie as tie
 
@@ -11,7 +11,7 @@ find-key-requires : tie.Need-find-key-requires
 find-key-requires c κs =
     let pre = c.before.before.before.before.before.before.before.before.requires in
     let config-count = c.before.before.before.config-count in
-    add-sought pre config-count.result config-count.ensures c.key-bucket.result c.key-bucket.ensures
+    add_sought pre config-count.result config-count.ensures c.key-bucket.result c.key-bucket.ensures
 
 insert-requires : tie.Need-insert-requires
 insert-requires c κs =
@@ -29,7 +29,7 @@ returns c =
     let insert = c.before.before.insert in
     let clear = c.before.before.before.before.before.before.clear in
     insert.ensures args.store.now clear.new.0
-    ∙ add-last pre config-count.result config-count.ensures (sym (ap place_of enum_told.given.1) ∙ find-key.ensures)
+    ∙ add_last pre config-count.result config-count.ensures (sym (ap place_of enum_told.given.1) ∙ find-key.ensures)
     clear.new.0 clear.ensures
 
 join-requires : tie.Need-join-requires
@@ -39,7 +39,7 @@ join-requires c κs =
     let pre = c.before.before.before.before.before.before.before.before.before.before.before.before.before.before.before.requires in
     let config-count = c.before.before.before.before.before.before.before.before.before.before.config-count in
     let e : find-key.result ≡ At found.given.0.0 = cc in
-    add-joinable pre config-count.result config-count.ensures found.given.0.0 (sym (ap place_of e) ∙ find-key.ensures)
+    add_joinable pre config-count.result config-count.ensures found.given.0.0 (sym (ap place_of e) ∙ find-key.ensures)
 
 returns-2 : tie.Need-returns-2
 returns-2 c =

@@ -3,7 +3,7 @@ use borrow.Author.Rules.{rules}
 use native.Mathlib.Omega.{arith}
 use lib.ListN.{length-set}
 use Rattle.setcheck.specs.Configs.{config_of}
-use Rattle.configs.specs.Inserts.{insert-full, insert-done}
+use Rattle.configs.specs.Inserts.{insert_full, insert_done}
 use Rattle.configs.proofs.adding.insert.Statement.{statement}
 use Rattle.configs.proofs.adding.insert.Tie as tie
 
@@ -11,7 +11,7 @@ returns : tie.Need-returns
 returns c w z =
     let args = c.before.before.before.before.args in
     let pre = c.before.before.before.before.requires in
-    insert-full args.set.now pre (config_of args.config) c.before.config-count.result c.before.config-count.ensures w z c.if1.true
+    insert_full args.set.now pre (config_of args.config) c.before.config-count.result c.before.config-count.ensures w z c.if1.true
 
 slice-write-set-2 : tie.Need-slice-write-set-2
 slice-write-set-2 c =
@@ -27,7 +27,7 @@ returns-2 c w z =
     let if1 = c.before.before.before.before.before.before.before.if1 in
     let flag_word = c.before.before.before.before.before.flag_word in
     let put-config = c.before.before.before.put-config in
-    insert-done args.set.now pre (config_of args.config) config-count.result config-count.ensures w z if1.false flag_word.result
+    insert_done args.set.now pre (config_of args.config) config-count.result config-count.ensures w z if1.false flag_word.result
     flag_word.ensures c.joined-flags.result c.joined-flags.ensures put-config.new.0 put-config.ensures
 
 pub insert-spec : {M : Type 1} → statement M

@@ -3,7 +3,7 @@ use borrow.Author.Rules.{rules}
 use mathlib.Core.Path.{◌≡◌}
 use native.Mathlib.Omega.{arith}
 use Rattle.store.specs.declared.inner.admit.Admitted.TheVariants.{Ready as ready, Refused}
-use Rattle.configs.specs.Settles.{close-refused, close-done}
+use Rattle.configs.specs.Settles.{close_refused, close_done}
 use Rattle.configs.proofs.settle.close.Statement.{statement}
 use Rattle.configs.proofs.settle.close.Tie as tie
 
@@ -12,7 +12,7 @@ returns c =
     let open-set = c.before.before.before.before.before.open-set in
     let args = c.before.before.before.before.before.before.before.before.before.before.before.args in
     let e : open-set.result ≡ Refused c.before.opened.given.0.0 = cc in
-    close-refused args.store.now args.set.now args.scratch.now open-set.new.1.1.0 c.before.opened.given.0.0 (rw e at open-set.ensures)
+    close_refused args.store.now args.set.now args.scratch.now open-set.new.1.1.0 c.before.opened.given.0.0 (rw e at open-set.ensures)
 
 flag-word-requires : tie.Need-flag-word-requires
 flag-word-requires c κs =
@@ -37,7 +37,7 @@ returns-2 c =
     let with-flag = c.before.before.before.before.with-flag in
     let clear = c.before.before.clear in
     let e : open-set.result ≡ ready = enum_told.given.1 in
-    close-done args.store.now args.set.now args.scratch.now open-set.new.1.1.0 (rw e at open-set.ensures)
+    close_done args.store.now args.set.now args.scratch.now open-set.new.1.1.0 (rw e at open-set.ensures)
     flag_word.result flag_word.ensures with-flag.result with-flag.ensures clear.new.0 clear.ensures
 
 pub close_spec : {M : Type 1} → statement M

@@ -1,7 +1,7 @@
 -- The refusals are those of the definition, in its order; then the contexts are merged.
 use borrow.Author.Rules.{rules}
-use Rattle.interning.specs.Live.{live-length}
-use Rattle.contexts.specs.MergeCall.Laws.{call-refused, call-ready, call-unknown, call-merged}
+use Rattle.interning.specs.Live.{live_length}
+use Rattle.contexts.specs.MergeCall.Laws.{call_refused, call_ready, call_unknown, call_merged}
 use Rattle.contexts.proofs.merges.merge.Statement.{statement}
 use Rattle.contexts.proofs.merges.merge.Tie as tie
 
@@ -11,7 +11,7 @@ returns c =
     let p1 = c.before.before.before.before.before in
     let admit = p1.admit in
     let args = p1.before.before.before.before.before.args in
-    call-refused args.store.now args.scratch.now admit.new.1.0 args.left.0 args.right.0 args.root-is-wildcard
+    call_refused args.store.now args.scratch.now admit.new.1.0 args.left.0 args.right.0 args.root-is-wildcard
     admit.result admit.ensures admitted.given.0.0 admitted.given.1
 
 count-of-requires : tie.Need-count-of-requires
@@ -20,8 +20,8 @@ count-of-requires c κs =
     let p1 = c.before.before.before.before.before in
     let admit = p1.admit in
     let args = p1.before.before.before.before.before.args in
-    live-length
-    (call-ready args.store.now args.scratch.now admit.new.1.0 args.left.0 args.right.0 args.root-is-wildcard
+    live_length
+    (call_ready args.store.now args.scratch.now admit.new.1.0 args.left.0 args.right.0 args.root-is-wildcard
     admit.result admit.ensures enum_told.given.1).0
 
 returns-2 : tie.Need-returns-2
@@ -35,7 +35,7 @@ returns-2 c =
     let p3 = p2.before.before.before.before in
     let admit = p3.admit in
     let args = p3.before.before.before.before.before.args in
-    call-unknown args.store.now args.scratch.now admit.new.1.0 args.left.0 args.right.0 args.root-is-wildcard
+    call_unknown args.store.now args.scratch.now admit.new.1.0 args.left.0 args.right.0 args.root-is-wildcard
     admit.result admit.ensures enum_told.given.1 (rw count_of.ensures at if1.true) clear.new.0 clear.ensures
 
 merge-known-requires : tie.Need-merge-known-requires
@@ -47,14 +47,14 @@ merge-known-requires c κs =
     let p2 = p1.before.before.before.before.before.before in
     let admit = p2.admit in
     let args = p2.before.before.before.before.before.args in
-    let ready = call-ready args.store.now args.scratch.now admit.new.1.0 args.left.0 args.right.0 args.root-is-wildcard
+    let ready = call_ready args.store.now args.scratch.now admit.new.1.0 args.left.0 args.right.0 args.root-is-wildcard
     admit.result admit.ensures enum_told.given.1 in
     (ready.0, ready.1, rw count_of.ensures at if1.false)
 
 returns-3 : tie.Need-returns-3
 returns-3 c =
     let p1 = c.before.before.before.before in
-    let merge-known = p1.merge-known in
+    let merge_known = p1.merge-known in
     let p2 = p1.before.before.before in
     let if1 = p2.if1 in
     let count_of = p2.before.before.count_of in
@@ -63,8 +63,8 @@ returns-3 c =
     let p4 = p3.before.before.before.before in
     let admit = p4.admit in
     let args = p4.before.before.before.before.before.args in
-    call-merged args.store.now args.scratch.now admit.new.1.0 args.left.0 args.right.0 args.root-is-wildcard
-    admit.result admit.ensures enum_told.given.1 (rw count_of.ensures at if1.false) _ merge-known.ensures
+    call_merged args.store.now args.scratch.now admit.new.1.0 args.left.0 args.right.0 args.root-is-wildcard
+    admit.result admit.ensures enum_told.given.1 (rw count_of.ensures at if1.false) _ merge_known.ensures
 
 pub merge-spec : {M : Type 1} → statement M
 merge-spec =

@@ -5,20 +5,20 @@ use mathlib.Core.Path.{◌≡◌, ap, ◌∙◌}
 use lib.ListN.{length}
 use Rattle.layout.specs.Decode.{store_of}
 use Rattle.encoding.specs.Written.{words_length}
-use Rattle.interning.specs.Live.{live-length, live-sound}
-use Rattle.contexts.specs.MergeCall.Laws.{begin, merge-made, merge-refused}
+use Rattle.interning.specs.Live.{live_length, live_sound}
+use Rattle.contexts.specs.MergeCall.Laws.{begin, merge_made, merge_refused}
 use Rattle.contexts.proofs.merges.merge_known.Statement.{statement}
 use Rattle.contexts.proofs.merges.merge_known.Tie as tie
 
 count-of-requires : tie.Need-count-of-requires
 count-of-requires c κs =
     let pre = c.before.before.before.requires in
-    live-length pre.0
+    live_length pre.0
 
 used-of-requires : tie.Need-used-of-requires
 used-of-requires c κs =
     let pre = c.before.before.before.before.before.requires in
-    live-length pre.0
+    live_length pre.0
 
 merge-requires : tie.Need-merge-requires
 merge-requires c κs =
@@ -41,8 +41,8 @@ cut-back-requires c κs =
     let pre = p2.before.before.before.before.before.before.requires in
     let stuck = rw outcome2.given.1 at merge.ensures in (
       ap length stuck.1.words ∙ words_length (store_of merge.new.0),
-      omega (arith, count_of.ensures, (live-sound pre.0).counted.1),
-      omega (arith, used-of.ensures, (live-sound pre.0).counted.2),
+      omega (arith, count_of.ensures, (live_sound pre.0).counted.1),
+      omega (arith, used-of.ensures, (live_sound pre.0).counted.2),
     )
 
 returns : tie.Need-returns
@@ -60,7 +60,7 @@ returns c =
     let pre = p5.requires in
     let args = p5.args in
     let is_merged = rw outcome.given.1 at merge.ensures in
-    merge-made args.root-is-wildcard args.store.now args.scratch.now args.left.0 args.right.0 pre.0 pre.1 pre.2
+    merge_made args.root-is-wildcard args.store.now args.scratch.now args.left.0 args.right.0 pre.0 pre.1 pre.2
     clear-cache.new.0 clear-cache.ensures outcome.given.0.0.0 merge.new.0 merge.new.1.0
     is_merged.0 merges-counted.result outcome.given.0.1.0 merges-counted.ensures is_merged.1 clear.new.0 clear.ensures
 
@@ -82,7 +82,7 @@ returns-2 c =
     let pre = p6.requires in
     let args = p6.args in
     let stuck = rw outcome2.given.1 at merge.ensures in
-    merge-refused args.root-is-wildcard args.store.now args.scratch.now args.left.0 args.right.0 pre.0 pre.1 pre.2
+    merge_refused args.root-is-wildcard args.store.now args.scratch.now args.left.0 args.right.0 pre.0 pre.1 pre.2
     clear-cache.new.0 clear-cache.ensures outcome2.given.0.0 merge.new.0 merge.new.1.0 stuck.0 stuck.1
     count_of.result used-of.result count_of.ensures used-of.ensures cut_back.new.0 clear2.new.0
     cut_back.ensures clear2.ensures

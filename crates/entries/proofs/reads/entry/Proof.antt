@@ -4,7 +4,7 @@ use native.Mathlib.Omega.{arith}
 use mathlib.Core.Path.{◌≡◌, sym, ap, ◌∙◌}
 use Prim.Native.Nat.{ℕ, ◌+◌}
 use Rattle.layout.specs.Layout.{kind, parent, state}
-use Rattle.entries.specs.Reading.{few, is-many, entry_zero, entry-one, entry-many, many-place}
+use Rattle.entries.specs.Reading.{few, is_many, entry_zero, entry_one, entry_many, many_place}
 use Rattle.entries.proofs.reads.entry.Statement.{statement}
 use Rattle.entries.proofs.reads.entry.Tie as tie
 
@@ -39,7 +39,7 @@ returns-2 c =
     let kind-of = c.before.before.before.before.kind-of in
     let pre = c.before.before.before.before.before.before.before.requires in
     let args = c.before.before.before.before.before.before.before.args in
-    let e = entry-one pre.0 args.index pre.1 (sym kind-of.ensures ∙ if2.true) in
+    let e = entry_one pre.0 args.index pre.1 (sym kind-of.ensures ∙ if2.true) in
     (first_of.ensures ∙ e.0, second-of.ensures ∙ e.1)
 
 add-place : tie.Need-overflow-add-place
@@ -50,8 +50,8 @@ add-place c =
     let kind-of = c.before.before.before.kind-of in
     let pre = c.before.before.before.before.before.before.requires in
     let args = c.before.before.before.before.before.before.args in
-    let many = is-many pre.0 (λ e. if1.false (kind-of.ensures ∙ e)) (λ e. if2.false (kind-of.ensures ∙ e)) in
-    omega (arith, first_of.ensures, many-place pre.0 args.index pre.1 many)
+    let many = is_many pre.0 (λ e. if1.false (kind-of.ensures ∙ e)) (λ e. if2.false (kind-of.ensures ∙ e)) in
+    omega (arith, first_of.ensures, many_place pre.0 args.index pre.1 many)
 
 pool-parent-requires : tie.Need-pool-parent-requires
 pool-parent-requires c κs =
@@ -61,8 +61,8 @@ pool-parent-requires c κs =
     let kind-of = c.before.before.before.kind-of in
     let pre = c.before.before.before.before.before.before.requires in
     let args = c.before.before.before.before.before.before.args in
-    let many = is-many pre.0 (λ e. if1.false (kind-of.ensures ∙ e)) (λ e. if2.false (kind-of.ensures ∙ e)) in
-    (pre.0.sized, omega (arith, first_of.ensures, many-place pre.0 args.index pre.1 many))
+    let many = is_many pre.0 (λ e. if1.false (kind-of.ensures ∙ e)) (λ e. if2.false (kind-of.ensures ∙ e)) in
+    (pre.0.sized, omega (arith, first_of.ensures, many_place pre.0 args.index pre.1 many))
 
 pool-state-requires : tie.Need-pool-state-requires
 pool-state-requires c κs =
@@ -72,24 +72,24 @@ pool-state-requires c κs =
     let kind-of = c.before.before.before.before.kind-of in
     let pre = c.before.before.before.before.before.before.before.requires in
     let args = c.before.before.before.before.before.before.before.args in
-    let many = is-many pre.0 (λ e. if1.false (kind-of.ensures ∙ e)) (λ e. if2.false (kind-of.ensures ∙ e)) in
-    (pre.0.sized, omega (arith, first_of.ensures, many-place pre.0 args.index pre.1 many))
+    let many = is_many pre.0 (λ e. if1.false (kind-of.ensures ∙ e)) (λ e. if2.false (kind-of.ensures ∙ e)) in
+    (pre.0.sized, omega (arith, first_of.ensures, many_place pre.0 args.index pre.1 many))
 
 returns-3 : tie.Need-returns-3
 returns-3 c =
-    let pool-state = c.pool-state in
+    let pool_state = c.pool-state in
     let if2 = c.before.before.if2 in
-    let pool-parent = c.before.pool-parent in
+    let pool_parent = c.before.pool-parent in
     let first_of = c.before.before.before.first_of in
     let if1 = c.before.before.before.before.if1 in
     let kind-of = c.before.before.before.before.before.kind-of in
     let pre = c.before.before.before.before.before.before.before.before.requires in
     let args = c.before.before.before.before.before.before.before.before.args in
     let words = args.store.now in
-    let many = is-many pre.0 (λ e. if1.false (kind-of.ensures ∙ e)) (λ e. if2.false (kind-of.ensures ∙ e)) in
-    let e = entry-many pre.0 args.index pre.1 many in (
-      pool-parent.ensures ∙ ap (λ (x : ℕ). parent words (x + args.index)) first_of.ensures ∙ e.0,
-      pool-state.ensures ∙ ap (λ (x : ℕ). state words (x + args.index)) first_of.ensures ∙ e.1,
+    let many = is_many pre.0 (λ e. if1.false (kind-of.ensures ∙ e)) (λ e. if2.false (kind-of.ensures ∙ e)) in
+    let e = entry_many pre.0 args.index pre.1 many in (
+      pool_parent.ensures ∙ ap (λ (x : ℕ). parent words (x + args.index)) first_of.ensures ∙ e.0,
+      pool_state.ensures ∙ ap (λ (x : ℕ). state words (x + args.index)) first_of.ensures ∙ e.1,
     )
 
 pub entry_spec : {M : Type 1} → statement M

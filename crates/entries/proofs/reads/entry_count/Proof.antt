@@ -1,7 +1,7 @@
 -- By kind: an array's length is its size, and any other record has one entry.
 use borrow.Author.Rules.{rules}
 use mathlib.Core.Path.{sym, ◌∙◌}
-use Rattle.entries.specs.Reading.{few, size-many, size_other}
+use Rattle.entries.specs.Reading.{few, size_many, size_other}
 use Rattle.entries.proofs.reads.entry_count.Statement.{statement}
 use Rattle.entries.proofs.reads.entry_count.Tie as tie
 
@@ -21,7 +21,7 @@ returns c =
     let if1 = c.before.if1 in
     let kind-of = c.before.before.kind-of in
     let pre = c.before.before.before.before.before.requires in
-    second-of.ensures ∙ sym (size-many pre (sym kind-of.ensures ∙ if1.true))
+    second-of.ensures ∙ sym (size_many pre (sym kind-of.ensures ∙ if1.true))
 
 returns-2 : tie.Need-returns-2
 returns-2 c =

@@ -1,4 +1,4 @@
--- A turn pushes one entry more, by `tail-turn`; then all that was pushed is interned.
+-- A turn pushes one entry more, by `tail_turn`; then all that was pushed is interned.
 use native.Mathlib.Omega.{arith}
 use mathlib.Core.Path.{◌≡◌, sym, ◌∙◌}
 use Prim.Native.Nat.{◌-◌, ◌≤◌}
@@ -6,8 +6,8 @@ use lib.ListN.{length}
 use Rattle.arena.specs.Store.{node_at}
 use Rattle.arena.specs.Kinds.{size}
 use Rattle.layout.specs.Decode.{store_of}
-use Rattle.interning.specs.Live.{live-length}
-use Rattle.entries.specs.Rest.{Tail, live_known, tail_start, tail-next, tail-turn, tail-done, finished, extends_lengths}
+use Rattle.interning.specs.Live.{live_length}
+use Rattle.entries.specs.Rest.{Tail, live_known, tail_start, tail_next, tail_turn, tail_done, finished, extends_lengths}
 use Rattle.entries.proofs.rest.intern_with_rest.Statement.{statement}
 use Rattle.entries.proofs.rest.intern_with_rest.Tie as tie
 
@@ -65,14 +65,14 @@ loop-again c =
     let put-entry = c.before.before.put-entry in
     let entry = c.before.before.before.before.entry in
     let loop = c.before.before.before.before.before.before.before.loop in
-    let more = tail-turn loop.invariant.2 (omega (arith, loop.invariant.1)) entry.ensures.0 entry.ensures.1 _ put-entry.ensures in
+    let more = tail_turn loop.invariant.2 (omega (arith, loop.invariant.1)) entry.ensures.0 entry.ensures.1 _ put-entry.ensures in
     (more.now.live.index.sized, loop.invariant.1, more)
 
 intern-entries-requires : tie.Need-intern-entries-requires invariant-loop decreases-loop
 intern-entries-requires c κs =
     let loop = c.before.before.before.loop in
     let pre = c.before.before.before.before.before.before.before.before.requires in
-    ((tail-done loop.invariant.2 (omega (arith, loop.invariant.1))).0, pre.0.known, pre.1)
+    ((tail_done loop.invariant.2 (omega (arith, loop.invariant.1))).0, pre.0.known, pre.1)
 
 same_length : tie.Need-same-length invariant-loop decreases-loop
 same_length c =
@@ -80,7 +80,7 @@ same_length c =
     let loop = c.before.before.before.before.before.before.before.before.loop in
     let pre = c.before.before.before.before.before.before.before.before.before.before.before.before.before.requires.0 in
     let all = finished loop.invariant.2 (omega (arith, loop.invariant.1)) intern-entries.result intern-entries.new.0 intern-entries.new.1.0 intern-entries.ensures in
-    omega (arith, live-length pre.live, (extends_lengths pre intern-entries.result intern-entries.new.0 intern-entries.new.1.0 all).0)
+    omega (arith, live_length pre.live, (extends_lengths pre intern-entries.result intern-entries.new.0 intern-entries.new.1.0 all).0)
 
 same-length-2 : tie.Need-same-length-2 invariant-loop decreases-loop
 same-length-2 c =

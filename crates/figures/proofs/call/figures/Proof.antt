@@ -7,7 +7,7 @@ use lib.ListN.{length}
 use borrow.Author.Tests.{lt-ltb, le-ltb}
 use Rattle.store.specs.declared.inner.admit.Admitted.TheVariants.{Ready as ready, Refused}
 use Rattle.verdicts.specs.Calls.{Summary, summary, verdict_left, most_stops}
-use Rattle.verdicts.specs.Opened.{ready_lent, left-refused, left_passed, left-due}
+use Rattle.verdicts.specs.Opened.{ready_lent, left_refused, left_passed, left_due}
 use Rattle.figures.specs.Calls.{figures_call}
 use Rattle.figures.proofs.call.figures.Statement.{statement}
 use Rattle.figures.proofs.call.figures.Tie as tie
@@ -19,7 +19,7 @@ returns c =
     let open-set = c.before.before.before.before.before.open-set in
     let opened = c.before.opened in
     let e : open-set.result ≡ Refused opened.given.0.0 = cc in
-    left-refused args.store.now args.set.now args.scratch.now 0 [] _ [] refl _ opened.given.0.0 open-set.new.1.1.0 (rw e at open-set.ensures)
+    left_refused args.store.now args.set.now args.scratch.now 0 [] _ [] refl _ opened.given.0.0 open-set.new.1.1.0 (rw e at open-set.ensures)
 
 returns-2 : tie.Need-returns-2
 unfolding figures_call
@@ -31,7 +31,7 @@ returns-2 c =
     let open-set = c.before.before.before.before.before.before.before.before.before.open-set in
     let e : open-set.result ≡ ready = enum_told.given.1 in
     let s = rw e at open-set.ensures in
-    left-due args.store.now args.set.now args.scratch.now 0 [] _ [] refl open-set.new.1.1.0 clear.new.0 (ready_lent s.0).lent clear.ensures
+    left_due args.store.now args.set.now args.scratch.now 0 [] _ [] refl open-set.new.1.1.0 clear.new.0 (ready_lent s.0).lent clear.ensures
     10 (λ q. omega arith) _ (lt-ltb most_stops (length args.stops.now) if1.true) open-set.new.1.1.0 s
 
 all-figures-requires : tie.Need-all-figures-requires

@@ -1,26 +1,26 @@
 -- The entry is a mark of no kind, the mark of any multiple of 4, or a length.
 use borrow.Author.Rules.{rules}
 use mathlib.Core.Path.{sym}
-use Rattle.format.specs.Payloads.Laws.{kind-unknown, kind-variable, kind-fixed}
+use Rattle.format.specs.Payloads.Laws.{kind_unknown, kind_variable, kind_fixed}
 use Rattle.format.proofs.payloads.payload_fits.Statement.{statement}
 use Rattle.format.proofs.payloads.payload_fits.Tie as tie
 
 returns : tie.Need-returns
 returns c =
     let args = c.before.before.args in
-    sym (kind-unknown args.length args.kind c.before.entry_of.result c.before.entry_of.ensures c.if1.true)
+    sym (kind_unknown args.length args.kind c.before.entry_of.result c.before.entry_of.ensures c.if1.true)
 
 returns-2 : tie.Need-returns-2
 returns-2 c =
     let args = c.before.before.before.args in
     let entry_of = c.before.before.entry_of in
-    sym (kind-variable args.length args.kind entry_of.result entry_of.ensures c.if2.true)
+    sym (kind_variable args.length args.kind entry_of.result entry_of.ensures c.if2.true)
 
 returns-3 : tie.Need-returns-3
 returns-3 c =
     let args = c.before.before.before.args in
     let entry_of = c.before.before.entry_of in
-    sym (kind-fixed args.length args.kind entry_of.result entry_of.ensures c.before.if1.false c.if2.false)
+    sym (kind_fixed args.length args.kind entry_of.result entry_of.ensures c.before.if1.false c.if2.false)
 
 pub payload-fits-spec : {M : Type 1} → statement M
 payload-fits-spec =

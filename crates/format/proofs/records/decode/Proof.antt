@@ -2,14 +2,14 @@
 use borrow.Author.Rules.{rules}
 use native.Mathlib.Omega.{arith}
 use mathlib.Core.Path.{sym, ◌∙◌}
-use Rattle.format.specs.Format.Laws.{read-end, read_short, read-header}
+use Rattle.format.specs.Format.Laws.{read_end, read_short, read_header}
 use Rattle.format.proofs.records.decode.Statement.{statement}
 use Rattle.format.proofs.records.decode.Tie as tie
 
 returns : tie.Need-returns
 returns c =
     let args = c.before.before.args in
-    (sym (read-end args.bytes.now args.at c.if1.true), tt)
+    (sym (read_end args.bytes.now args.at c.if1.true), tt)
 
 returns-2 : tie.Need-returns-2
 returns-2 c =
@@ -19,7 +19,7 @@ returns-2 c =
 returns-3 : tie.Need-returns-3
 returns-3 c =
     let args = c.before.before.before.before.args in
-    (c.read-record.ensures.0 ∙ sym (read-header args.bytes.now args.at (omega arith)), c.read-record.ensures.1)
+    (c.read-record.ensures.0 ∙ sym (read_header args.bytes.now args.at (omega arith)), c.read-record.ensures.1)
 
 pub decode-spec : {M : Type 1} → statement M
 decode-spec =

@@ -4,7 +4,7 @@ use native.Mathlib.Omega.{arith}
 use mathlib.Core.Path.{refl, sym, ap, ◌∙◌}
 use Rattle.format.specs.Payloads.{payload_of}
 use Rattle.format.specs.Payloads.Laws.{payload_1, payload_2, payload_7}
-use Rattle.format.specs.Format.Laws.{payload-singleton, payload-show}
+use Rattle.format.specs.Format.Laws.{payload_singleton, payload_show}
 use Rattle.format.proofs.records.read_payload.Statement.{statement}
 use Rattle.format.proofs.records.read_payload.Tie as tie
 
@@ -27,7 +27,7 @@ returns : tie.Need-returns
 returns c =
     let args = c.before.before.before.before.args in
     let if1 = c.before.before.if1 in
-    rw (if1.true, c.before.u32-at.ensures, c.u64-at.ensures) (sym (payload-singleton args.bytes.now args.at args.next), tt)
+    rw (if1.true, c.before.u32-at.ensures, c.u64-at.ensures) (sym (payload_singleton args.bytes.now args.at args.next), tt)
 
 read-merge-requires : tie.Need-read-merge-requires
 read-merge-requires c κs =
@@ -45,7 +45,7 @@ u32-at-requires-2 c κs =
 returns-3 : tie.Need-returns-3
 returns-3 c =
     let args = c.before.before.before.before.before.args in
-    rw (c.before.if3.true, c.u32-at2.ensures) (sym (payload-show args.bytes.now args.at args.next), tt)
+    rw (c.before.if3.true, c.u32-at2.ensures) (sym (payload_show args.bytes.now args.at args.next), tt)
 
 read-set-payload-requires : tie.Need-read-set-payload-requires
 read-set-payload-requires c κs =

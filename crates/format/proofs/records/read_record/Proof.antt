@@ -3,7 +3,7 @@ use borrow.Author.Rules.{rules}
 use native.Mathlib.Omega.{arith}
 use mathlib.Core.Path.{refl, sym, ◌∙◌}
 use borrow.Author.Tests.{not_true, not_false}
-use Rattle.format.specs.Format.Laws.{record-short, record-wrong, record-right}
+use Rattle.format.specs.Format.Laws.{record_short, record_wrong, record_right}
 use Rattle.format.specs.Whole.{whole}
 use Prim.Native.Nat.{◌+◌}
 use Rattle.format.proofs.records.read_record.Statement.{statement}
@@ -14,7 +14,7 @@ returns c =
     let args = c.before.before.before.before.args in
     let u16-at = c.before.before.u16-at in
     let u16-at2 = c.before.u16-at2 in
-    (rw (← u16-at.ensures.0, ← u16-at2.ensures.0) (sym (record-short args.bytes.now args.at u16-at.result u16-at2.result (omega arith))), tt)
+    (rw (← u16-at.ensures.0, ← u16-at2.ensures.0) (sym (record_short args.bytes.now args.at u16-at.result u16-at2.result (omega arith))), tt)
 
 returns-2 : tie.Need-returns-2
 returns-2 c =
@@ -24,7 +24,7 @@ returns-2 c =
     let u16-at2 = u16-at2 in (
       rw (← u16-at.ensures.0, ← u16-at2.ensures.0)
           (sym
-          (record-wrong args.bytes.now args.at u16-at.result u16-at2.result (omega arith)
+          (record_wrong args.bytes.now args.at u16-at.result u16-at2.result (omega arith)
           (sym c.before.payload-fits.ensures ∙ not_true _ c.if2.true))),
       tt,
     )
@@ -46,7 +46,7 @@ returns-3 c =
     let u16-at2 = u16-at2 in (
       rw (← u16-at.ensures.0, ← u16-at2.ensures.0)
           (c.read-payload.ensures.0 ∙ sym
-          (record-right args.bytes.now args.at u16-at.result u16-at2.result (omega arith)
+          (record_right args.bytes.now args.at u16-at.result u16-at2.result (omega arith)
           (sym payload-fits.ensures ∙ not_false _ c.before.if2.false))),
       c.read-payload.ensures.1,
     )

@@ -5,7 +5,7 @@ use Rattle.sets.specs.Config.{Config}
 use Rattle.format.specs.Format.{add, found}
 use Rattle.format.specs.Payloads.{payload_of}
 use Rattle.format.specs.Payloads.Laws.{payload_3, payload_4, payload_5}
-use Rattle.format.specs.Format.Laws.{payload-add, payload-stops, payload-verdict, payload-close, payload-why, payload_other}
+use Rattle.format.specs.Format.Laws.{payload_add, payload_stops, payload_verdict, payload_close, payload_why, payload_other}
 use Rattle.format.proofs.records.read_set_payload.Statement.{statement}
 use Rattle.format.proofs.records.read_set_payload.Tie as tie
 
@@ -26,7 +26,7 @@ returns-2 : tie.Need-returns-2
 returns-2 c =
     let args = c.before.before.before.before.args in
     rw c.before.if2.true
-    (ap (λ (x : Config). found (add x) args.next) c.read-config.ensures ∙ sym (payload-add args.bytes.now args.at args.next), tt)
+    (ap (λ (x : Config). found (add x) args.next) c.read-config.ensures ∙ sym (payload_add args.bytes.now args.at args.next), tt)
 
 sub-t9 : tie.Need-overflow-sub-t9
 sub-t9 c =
@@ -38,24 +38,24 @@ returns-3 c =
     let args = c.before.before.before.before.args in
     let pre = c.before.before.before.before.requires in
     let whole = pre.0 in (
-      rw c.if3.true (sym (payload-stops args.bytes.now args.at args.next)),
+      rw c.if3.true (sym (payload_stops args.bytes.now args.at args.next)),
       (whole.words (ap payload_of c.if3.true ∙ payload_5), whole.within),
     )
 
 returns-4 : tie.Need-returns-4
 returns-4 c =
     let args = c.before.before.before.before.before.args in
-    (rw c.if4.true (sym (payload-verdict args.bytes.now args.at args.next)), tt)
+    (rw c.if4.true (sym (payload_verdict args.bytes.now args.at args.next)), tt)
 
 returns-5 : tie.Need-returns-5
 returns-5 c =
     let args = c.before.before.before.before.before.before.args in
-    (rw c.if5.true (sym (payload-close args.bytes.now args.at args.next)), tt)
+    (rw c.if5.true (sym (payload_close args.bytes.now args.at args.next)), tt)
 
 returns-6 : tie.Need-returns-6
 returns-6 c =
     let args = c.before.before.before.before.before.before.before.args in
-    (rw c.if6.true (sym (payload-why args.bytes.now args.at args.next)), tt)
+    (rw c.if6.true (sym (payload_why args.bytes.now args.at args.next)), tt)
 
 returns-7 : tie.Need-returns-7
 returns-7 c =

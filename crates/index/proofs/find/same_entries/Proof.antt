@@ -5,7 +5,7 @@ use mathlib.Core.Path.{◌≡◌, sym, ◌∙◌}
 use Prim.Native.Nat.{ℕ, ◌+◌, ◌-◌, ◌<◌, ◌≤◌}
 use Rattle.layout.specs.Layout.{parent, state}
 use Rattle.layout.specs.Scratch.{stack_parent, stack_state}
-use Rattle.index.specs.Same.{entries-same, parent-other, state-other}
+use Rattle.index.specs.Same.{entries_same, parent_other, state_other}
 use borrow.Author.Count.{below_more}
 use Rattle.index.proofs.find.same_entries.Statement.{statement}
 use Rattle.index.proofs.find.same_entries.Tie as tie
@@ -31,7 +31,7 @@ returns c =
     let pre = c.before.before.before.before.before.before.before.requires in
     let loop = c.before.before.before.before.loop in
     sym
-    (parent-other args.store.now args.scratch.now args.from args.at args.n pre.0.2 pre.1 loop.i (omega arith)
+    (parent_other args.store.now args.scratch.now args.from args.at args.n pre.0.2 pre.1 loop.i (omega arith)
     (λ e. c.if1.true (c.before.before.pool-parent.ensures ∙ e ∙ sym c.before.stack-parent.ensures)))
 
 pool-state-requires : tie.Need-pool-state-requires invariant-loop decreases-loop
@@ -46,18 +46,18 @@ returns-2 c =
     let pre = c.before.before.before.before.before.before.before.before.before.before.requires in
     let loop = c.before.before.before.before.before.before.before.loop in
     sym
-    (state-other args.store.now args.scratch.now args.from args.at args.n pre.0.2 pre.1 loop.i (omega arith)
+    (state_other args.store.now args.scratch.now args.from args.at args.n pre.0.2 pre.1 loop.i (omega arith)
     (λ e. c.if2.true (c.before.before.pool-state.ensures ∙ e ∙ sym c.before.stack-state.ensures)))
 
 loop-again : tie.Need-loop-preserved invariant-loop decreases-loop
 loop-again c =
     let loop = c.before.before.before.before.before.before.before.loop in
-    let pool-parent = c.before.before.before.before.before.pool-parent in
+    let pool_parent = c.before.before.before.before.before.pool-parent in
     let stack-parent = c.before.before.before.before.stack-parent in (
       omega arith,
       below_more _ _ loop.invariant.1 (
         sym c.before.before.pool-state.ensures ∙ c.if2.false ∙ c.before.stack-state.ensures,
-        sym pool-parent.ensures ∙ c.before.before.before.if1.false ∙ stack-parent.ensures,
+        sym pool_parent.ensures ∙ c.before.before.before.if1.false ∙ stack-parent.ensures,
       ),
     )
 
@@ -66,7 +66,7 @@ returns-3 c =
     let args = c.before.before.before.before.args in
     let pre = c.before.before.before.before.requires in
     sym
-    (entries-same args.store.now args.scratch.now args.from args.at args.n pre.0.2 pre.1
+    (entries_same args.store.now args.scratch.now args.from args.at args.n pre.0.2 pre.1
     (λ j h. c.before.loop.invariant.1 j (omega arith)))
 
 pub same-entries-spec : {M : Type 1} → statement M

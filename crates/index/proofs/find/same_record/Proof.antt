@@ -3,8 +3,8 @@ use borrow.Author.Rules.{rules}
 use native.Mathlib.Omega.{arith}
 use mathlib.Core.Path.{◌≡◌, sym, ◌∙◌}
 use Rattle.layout.specs.Layout.{second, kind}
-use Rattle.layout.specs.Decode.Laws.{node-one, node-many}
-use Rattle.index.specs.Same.{stacked-512, pool-512, kind-one-other, kind-two-other, kind-zero-other}
+use Rattle.layout.specs.Decode.Laws.{node_one, node_many}
+use Rattle.index.specs.Same.{stacked_512, pool_512, kind_one_other, kind_two_other, kind_zero_other}
 use Rattle.index.proofs.find.same_record.Statement.{statement}
 use Rattle.index.proofs.find.same_record.Tie as tie
 
@@ -20,7 +20,7 @@ same-single-requires c κs =
       (pre.0.0.sized, omega (arith, pre.0.0.few)),
       (
         rw c.if2.true at
-            (stacked-512 args.store.now args.scratch.now args.count args.candidate args.at args.n pre.0.0
+            (stacked_512 args.store.now args.scratch.now args.count args.candidate args.at args.n pre.0.0
             pre.0.1 pre.1.0 pre.1.1),
         rw c.if2.true at pre.1.1,
       ),
@@ -30,7 +30,7 @@ returns : tie.Need-returns
 returns c =
     let args = c.before.before.before.before.before.before.args in
     c.same-single.ensures ∙ rw (
-      node-one args.store.now args.candidate (sym c.before.before.before.kind-of.ensures ∙ c.before.before.if1.true),
+      node_one args.store.now args.candidate (sym c.before.before.before.kind-of.ensures ∙ c.before.before.if1.true),
       c.before.if2.true,
     )
 
@@ -39,7 +39,7 @@ returns-2 c =
     let args = c.before.before.before.before.before.args in
     let pre = c.before.before.before.before.before.requires in
     sym
-    (kind-one-other args.store.now args.scratch.now args.count args.candidate args.at args.n pre.0.0 pre.0.1
+    (kind_one_other args.store.now args.scratch.now args.count args.candidate args.at args.n pre.0.0 pre.0.1
     pre.1.0 pre.1.1 (sym c.before.before.kind-of.ensures ∙ c.before.if1.true) c.if2.false)
 
 second-of-requires : tie.Need-second-of-requires
@@ -65,10 +65,10 @@ same-entries-requires c κs =
         rw
             c.first_of.ensures
             (rw len at
-            (pool-512 args.store.now args.scratch.now args.count args.candidate args.at args.n pre.0.0
+            (pool_512 args.store.now args.scratch.now args.count args.candidate args.at args.n pre.0.0
             pre.0.1 pre.1.0 pre.1.1 k)),
       ),
-      stacked-512 args.store.now args.scratch.now args.count args.candidate args.at args.n pre.0.0 pre.0.1
+      stacked_512 args.store.now args.scratch.now args.count args.candidate args.at args.n pre.0.0 pre.0.1
           pre.1.0 pre.1.1,
     )
 
@@ -79,7 +79,7 @@ returns-3 c =
     let if3 = c.before.before.before.before.if3 in
     let k : kind args.store.now args.candidate ≡ 2 = sym kind-of.ensures ∙ if3.true in
     let len : second args.store.now args.candidate ≡ args.n = sym c.before.before.before.second-of.ensures ∙ c.before.before.if4.true in
-    c.same_entries.ensures ∙ rw (node-many args.store.now args.candidate k, c.before.first_of.ensures, len)
+    c.same_entries.ensures ∙ rw (node_many args.store.now args.candidate k, c.before.first_of.ensures, len)
 
 returns-4 : tie.Need-returns-4
 returns-4 c =
@@ -87,7 +87,7 @@ returns-4 c =
     let pre = c.before.before.before.before.before.before.before.requires in
     let kind-of = c.before.before.before.before.kind-of in
     sym
-    (kind-two-other args.store.now args.scratch.now args.count args.candidate args.at args.n pre.0.0 pre.0.1
+    (kind_two_other args.store.now args.scratch.now args.count args.candidate args.at args.n pre.0.0 pre.0.1
     pre.1.0 pre.1.1 (sym kind-of.ensures ∙ c.before.before.if3.true)
     (λ e. c.if4.false (c.before.second-of.ensures ∙ e)))
 
@@ -97,7 +97,7 @@ returns-5 c =
     let pre = c.before.before.before.before.before.requires in
     let kind-of = c.before.before.kind-of in
     sym
-    (kind-zero-other args.store.now args.scratch.now args.count args.candidate args.at args.n pre.0.0 pre.0.1
+    (kind_zero_other args.store.now args.scratch.now args.count args.candidate args.at args.n pre.0.0 pre.0.1
     pre.1.0 pre.1.1 (λ e. c.before.if1.false (kind-of.ensures ∙ e)) (λ e. c.if3.false (kind-of.ensures ∙ e)))
 
 pub same-record-spec : {M : Type 1} → statement M

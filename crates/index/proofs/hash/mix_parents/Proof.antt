@@ -1,4 +1,4 @@
--- The hash goes on from what is done to what is left: a turn takes one entry more, by `parents-turn`.
+-- The hash goes on from what is done to what is left: a turn takes one entry more, by `parents_turn`.
 use borrow.Author.Rules.{rules}
 use native.Mathlib.Omega.{arith}
 use mathlib.Core.Path.{◌≡◌, sym, ap, ◌∙◌}
@@ -6,7 +6,7 @@ use Prim.Native.Nat.{◌+◌, ◌-◌, ◌≤◌}
 use Rattle.words.specs.Hash.{hash_from}
 use Rattle.index.specs.Hash.{parent_words}
 use Rattle.index.specs.Records.{hash_in, stack_node}
-use Rattle.index.specs.Walk.{parents-turn, parents_end, walk_start}
+use Rattle.index.specs.Walk.{parents_turn, parents_end, walk_start}
 use Rattle.index.proofs.hash.mix_parents.Statement.{statement}
 use Rattle.index.proofs.hash.mix_parents.Tie as tie
 
@@ -39,7 +39,7 @@ loop-again c =
     let pre = c.before.before.before.before.before.before.requires in
     let loop = c.before.before.before.before.loop in (
       omega arith,
-      loop.invariant.1 ∙ parents-turn (hash_in args.scratch.now) args.scratch.now args.at args.n 512 loop.i pre
+      loop.invariant.1 ∙ parents_turn (hash_in args.scratch.now) args.scratch.now args.at args.n 512 loop.i pre
           (omega arith) loop.hash ∙ rw (c.mix.ensures, c.before.context-hash.ensures, c.before.before.stack-parent.ensures),
     )
 

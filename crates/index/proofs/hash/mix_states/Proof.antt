@@ -1,4 +1,4 @@
--- The hash goes on from what is done to what is left: a turn takes one entry more, by `states-turn`.
+-- The hash goes on from what is done to what is left: a turn takes one entry more, by `states_turn`.
 use borrow.Author.Rules.{rules}
 use native.Mathlib.Omega.{arith}
 use mathlib.Core.Path.{◌≡◌, sym, ap, ◌∙◌}
@@ -6,7 +6,7 @@ use Prim.Native.Nat.{◌+◌, ◌-◌, ◌≤◌}
 use Rattle.words.specs.Hash.{hash_from}
 use Rattle.index.specs.Hash.{state_words}
 use Rattle.index.specs.Records.{stack_node}
-use Rattle.index.specs.Walk.{states-turn, states_end, walk_start}
+use Rattle.index.specs.Walk.{states_turn, states_end, walk_start}
 use Rattle.index.proofs.hash.mix_states.Statement.{statement}
 use Rattle.index.proofs.hash.mix_states.Tie as tie
 
@@ -28,7 +28,7 @@ loop-again c =
     let pre = c.before.before.before.before.before.requires in
     let loop = c.before.before.before.loop in (
       omega arith,
-      loop.invariant.1 ∙ states-turn (λ x. x) args.scratch.now args.at args.n 512 loop.i pre (omega arith) loop.hash ∙
+      loop.invariant.1 ∙ states_turn (λ x. x) args.scratch.now args.at args.n 512 loop.i pre (omega arith) loop.hash ∙
           rw (c.mix.ensures, c.before.stack-state.ensures),
     )
 

@@ -36,10 +36,10 @@ loop-again : tie.Need-loop-preserved invariant-loop decreases-loop
 loop-again c =
     let args = c.before.before.before.before.before.before.before.before.before.before.args in
     let loop = c.before.before.before.before.before.before.before.loop in
-    let pool-parent = c.before.before.before.before.before.pool-parent in
-    let pool-state = c.before.before.before.before.pool-state in
-    let more = load_more args.store.now args.scratch.now loop.scratch args.from loop.i args.at pool-parent.result pool-state.result (omega arith)
-    pool-parent.ensures pool-state.ensures loop.invariant.2 in
+    let pool_parent = c.before.before.before.before.before.pool-parent in
+    let pool_state = c.before.before.before.before.pool-state in
+    let more = load_more args.store.now args.scratch.now loop.scratch args.from loop.i args.at pool_parent.result pool_state.result (omega arith)
+    pool_parent.ensures pool_state.ensures loop.invariant.2 in
     rw c.before.before.put-entry.ensures (omega arith, more.sized, more)
 
 same_length : tie.Need-same-length invariant-loop decreases-loop

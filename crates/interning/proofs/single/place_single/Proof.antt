@@ -3,9 +3,9 @@ use borrow.Author.Rules.{rules}
 use native.Mathlib.Omega.{arith}
 use mathlib.Core.Path.{◌∙◌}
 use Rattle.store.specs.Admit.{cleared}
-use Rattle.interning.specs.Live.{live-count}
+use Rattle.interning.specs.Live.{live_count}
 use Rattle.interning.specs.SingletonCall.Laws.{placed_single}
-use Rattle.interning.specs.Outcomes.{single-pushed, single-place, interned_left, interned_length}
+use Rattle.interning.specs.Outcomes.{single_pushed, single_place, interned_left, interned_length}
 use Rattle.interning.proofs.single.place_single.Statement.{statement}
 use Rattle.interning.proofs.single.place_single.Tie as tie
 
@@ -17,8 +17,8 @@ intern-entries-requires c κs =
     let args = c.before.before.before.before.before.before.before.before.args in
     let pre = c.before.before.before.before.before.before.before.before.requires in
     let put-entry = c.before.before.before.before.put-entry in
-    let known = rw (live-count pre.0) at pre.1 in (
-      single-pushed args.store.now args.scratch.now pre.0 args.parent.0 args.state.0 pre.1 pre.2 put-entry.new.0
+    let known = rw (live_count pre.0) at pre.1 in (
+      single_pushed args.store.now args.scratch.now pre.0 args.parent.0 args.state.0 pre.1 pre.2 put-entry.new.0
           put-entry.ensures,
       known,
       known,
@@ -33,11 +33,11 @@ returns c =
     let intern-entries = c.before.before.before.before.before.before.before.before.before.intern-entries in
     let zero = c.before.before.before.clear.ensures ∙ cleared intern-entries.new.1.0
     (interned_length args.store.now put-entry.new.0 0 1 intern-entries.result intern-entries.new.0 intern-entries.new.1.0
-    (single-pushed args.store.now args.scratch.now pre.0 args.parent.0 args.state.0 pre.1 pre.2 put-entry.new.0
+    (single_pushed args.store.now args.scratch.now pre.0 args.parent.0 args.state.0 pre.1 pre.2 put-entry.new.0
     put-entry.ensures).stacked.sized intern-entries.ensures) in
     (rw (c.answer.ensures, zero)) ∙ interned_left args.store.now put-entry.new.0 0 1 _ intern-entries.result
     intern-entries.new.0 intern-entries.new.1.0
-    (single-place args.store.now args.scratch.now pre.0 args.parent.0 args.state.0 pre.1 pre.2
+    (single_place args.store.now args.scratch.now pre.0 args.parent.0 args.state.0 pre.1 pre.2
     put-entry.new.0 put-entry.ensures)
     intern-entries.ensures
 

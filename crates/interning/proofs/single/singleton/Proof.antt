@@ -5,7 +5,7 @@ use mathlib.Core.Path.{◌≡◌, sym, ◌∙◌}
 use Rattle.words.specs.declared.names.Compacted.TheVariants.{State}
 use Rattle.store.specs.declared.inner.admit.Admitted.TheVariants.{Refused}
 use Rattle.interning.specs.SingletonCall.Laws.{placed_single}
-use Rattle.interning.specs.Outcomes.{placed, singleton-refused, singleton-ready, singleton-mark, singleton-out, singleton-placed}
+use Rattle.interning.specs.Outcomes.{placed, singleton_refused, singleton_ready, singleton_mark, singleton_out, singleton_placed}
 use Rattle.interning.proofs.single.singleton.Statement.{statement}
 use Rattle.interning.proofs.single.singleton.Tie as tie
 
@@ -13,7 +13,7 @@ returns : tie.Need-returns
 returns c =
     let args = c.before.before.before.before.before.before.before.before.before.before.args in
     let at-admit = c.before.before.before.before.before.admit in
-    let e : at-admit.result ≡ Refused c.before.admitted.given.0.0 = cc in singleton-refused args.store.now args.scratch.now at-admit.new.1.0 args.parent.0
+    let e : at-admit.result ≡ Refused c.before.admitted.given.0.0 = cc in singleton_refused args.store.now args.scratch.now at-admit.new.1.0 args.parent.0
     args.state.0 at-admit.result at-admit.ensures c.before.admitted.given.0.0 e
 
 place-single-requires : tie.Need-place-single-requires
@@ -25,7 +25,7 @@ place-single-requires c κs =
     let compact2 = c.before.before.before.compact2 in
     let e : compact.result ≡ State compact2.given.0.0 = cc in
     let m = sym compact.ensures ∙ e in
-    let ready = singleton-ready args.store.now args.scratch.now at-admit.new.1.0 args.parent.0 args.state.0 at-admit.result at-admit.ensures enum_told.given.1 in
+    let ready = singleton_ready args.store.now args.scratch.now at-admit.new.1.0 args.parent.0 args.state.0 at-admit.result at-admit.ensures enum_told.given.1 in
     let o = placed args.store.now args.state.0 (placed_single args.store.now args.parent.0 args.state.0) compact2.given.0.0 m in
     (ready.0, ready.1, omega (arith, o.0, o.1))
 
@@ -36,7 +36,7 @@ returns-2 c =
     let enum_told = c.before.before.before.before.before.before.before.enum_told in
     let compact = c.before.before.before.before.before.before.compact in
     let enum-told2 = c.before.before.before.before.enum-told2 in
-    singleton-mark args.store.now args.scratch.now at-admit.new.1.0 args.parent.0 args.state.0 at-admit.result
+    singleton_mark args.store.now args.scratch.now at-admit.new.1.0 args.parent.0 args.state.0 at-admit.result
     at-admit.ensures enum_told.given.1 _ c.before.before.clear.ensures (sym compact.ensures ∙ enum-told2.given.1)
 
 returns-3 : tie.Need-returns-3
@@ -46,7 +46,7 @@ returns-3 c =
     let enum_told = c.before.before.before.before.before.before.before.enum_told in
     let compact = c.before.before.before.before.before.before.compact in
     let enum-told3 = c.before.before.before.before.enum-told3 in
-    singleton-out args.store.now args.scratch.now at-admit.new.1.0 args.parent.0 args.state.0 at-admit.result
+    singleton_out args.store.now args.scratch.now at-admit.new.1.0 args.parent.0 args.state.0 at-admit.result
     at-admit.ensures enum_told.given.1 _ c.before.before.clear2.ensures (sym compact.ensures ∙ enum-told3.given.1)
 
 returns-4 : tie.Need-returns-4
@@ -56,11 +56,11 @@ returns-4 c =
     let enum_told = c.before.before.before.before.before.before.before.before.before.before.before.enum_told in
     let compact = c.before.before.before.before.before.before.before.before.before.before.compact in
     let compact2 = c.before.before.before.before.before.before.before.before.compact2 in
-    let place-single = c.before.before.before.before.place-single in
+    let place_single = c.before.before.before.before.place-single in
     let e : compact.result ≡ State compact2.given.0.0 = cc in
     let m = sym compact.ensures ∙ e in
-    singleton-placed args.store.now args.scratch.now at-admit.new.1.0 args.parent.0 args.state.0 at-admit.result
-    at-admit.ensures enum_told.given.1 compact2.given.0.0 m _ place-single.ensures
+    singleton_placed args.store.now args.scratch.now at-admit.new.1.0 args.parent.0 args.state.0 at-admit.result
+    at-admit.ensures enum_told.given.1 compact2.given.0.0 m _ place_single.ensures
 
 pub singleton-spec : {M : Type 1} → statement M
 singleton-spec =

@@ -2,7 +2,7 @@
 use borrow.Author.Rules.{rules}
 use native.Mathlib.Omega.{arith}
 use mathlib.Core.Path.{sym}
-use Rattle.queries.specs.EntryWords.{few, bounds-read, parent-read, parent-many-past}
+use Rattle.queries.specs.EntryWords.{few, bounds_read, parent_read, parent_many_past}
 use Rattle.queries.proofs.parents.array_parent.Statement.{statement}
 use Rattle.queries.proofs.parents.array_parent.Tie as tie
 
@@ -14,7 +14,7 @@ pool-parent-requires c κs =
       omega (
         arith,
         c.before.if1.true,
-        bounds-read pre.0 pre.1 c.first_of.result second-of.result c.first_of.ensures
+        bounds_read pre.0 pre.1 c.first_of.result second-of.result c.first_of.ensures
             second-of.ensures,
       ),
     )
@@ -24,13 +24,13 @@ returns c =
     let pre = c.before.before.before.before.before.requires in
     let args = c.before.before.before.before.before.args in
     let second-of = c.before.before.before.second-of in
-    parent-read pre.0 pre.1 c.before.first_of.result second-of.result c.before.first_of.ensures second-of.ensures
+    parent_read pre.0 pre.1 c.before.first_of.result second-of.result c.before.first_of.ensures second-of.ensures
     args.index c.before.before.if1.true c.pool-parent.result c.pool-parent.ensures
 
 returns-2 : tie.Need-returns-2
 returns-2 c =
     let pre = c.before.before.before.requires in
-    sym (parent-many-past pre.0 c.before.before.before.args.index pre.1 (omega (arith, c.before.second-of.ensures)))
+    sym (parent_many_past pre.0 c.before.before.before.args.index pre.1 (omega (arith, c.before.second-of.ensures)))
 
 pub array-parent-spec : {M : Type 1} → statement M
 array-parent-spec =

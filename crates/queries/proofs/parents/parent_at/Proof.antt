@@ -1,7 +1,7 @@
 -- By kind and index: context 0, an array, a singleton's parent, past the end.
 use mathlib.Core.Path.{sym, ap, ◌∙◌}
 use Rattle.store.specs.Calls.{context}
-use Rattle.queries.specs.EntryWords.{few, parent-zero, parent-one, parent-other-past}
+use Rattle.queries.specs.EntryWords.{few, parent_zero, parent_one, parent_other_past}
 use Rattle.queries.proofs.parents.parent_at.Statement.{statement}
 use Rattle.queries.proofs.parents.parent_at.Tie as tie
 
@@ -9,7 +9,7 @@ kind-of-requires : tie.Need-kind-of-requires
 kind-of-requires c κs = (c.before.requires.sized, few c.before.requires)
 
 returns : tie.Need-returns
-returns c = sym (parent-zero c.before.before.before.requires c.before.before.before.args.index (sym c.before.kind-of.ensures ∙ c.if1.true))
+returns c = sym (parent_zero c.before.before.before.requires c.before.before.before.args.index (sym c.before.kind-of.ensures ∙ c.if1.true))
 
 array-parent-requires : tie.Need-array-parent-requires
 array-parent-requires c κs =
@@ -30,14 +30,14 @@ returns-3 c =
     let args = c.before.before.before.before.before.before.args in
     let kind-of = c.before.before.before.before.kind-of in
     ap context c.first_of.ensures ∙ sym
-    (parent-one pre args.index (λ e. c.before.before.before.if1.false (kind-of.ensures ∙ e))
+    (parent_one pre args.index (λ e. c.before.before.before.if1.false (kind-of.ensures ∙ e))
     (λ e. c.before.before.if2.false (kind-of.ensures ∙ e)) c.before.if3.true)
 
 returns-4 : tie.Need-returns-4
 returns-4 c =
     let pre = c.before.before.before.before.before.requires in
     let args = c.before.before.before.before.before.args in
-    sym (parent-other-past pre args.index (λ e. c.before.if2.false (c.before.before.before.kind-of.ensures ∙ e)) c.if3.false)
+    sym (parent_other_past pre args.index (λ e. c.before.if2.false (c.before.before.before.kind-of.ensures ∙ e)) c.if3.false)
 
 pub parent-at-spec : {M : Type 1} → statement M
 parent-at-spec =

@@ -1,7 +1,7 @@
 -- By kind: an array's last entry, and else whether the record is that of context 0.
 use borrow.Author.Rules.{rules}
 use mathlib.Core.Path.{sym, ◌∙◌}
-use Rattle.queries.specs.EntryWords.{few, bounds-read, last-read, path-other}
+use Rattle.queries.specs.EntryWords.{few, bounds_read, last_read, path_other}
 use native.Mathlib.Omega.{arith}
 use Rattle.queries.proofs.paths.ends_in_mark.Statement.{statement}
 use Rattle.queries.proofs.paths.ends_in_mark.Tie as tie
@@ -24,7 +24,7 @@ sub-pool-state c =
     let pre = c.before.before.before.before.before.requires in
     omega (
       arith,
-      bounds-read pre (sym c.before.before.before.kind-of.ensures ∙ c.before.before.if1.true)
+      bounds_read pre (sym c.before.before.before.kind-of.ensures ∙ c.before.before.if1.true)
           c.before.first_of.result c.second-of.result c.before.first_of.ensures c.second-of.ensures,
     )
 
@@ -34,7 +34,7 @@ pool-state-requires c κs =
       pre.sized,
       omega (
         arith,
-        bounds-read pre (sym c.before.before.before.kind-of.ensures ∙ c.before.before.if1.true)
+        bounds_read pre (sym c.before.before.before.kind-of.ensures ∙ c.before.before.if1.true)
             c.before.first_of.result c.second-of.result c.before.first_of.ensures c.second-of.ensures,
       ),
     )
@@ -44,11 +44,11 @@ returns c =
     let pre = c.before.before.before.before.before.before.requires in
     let kind-of = c.before.before.before.before.kind-of in
     let first_of = c.before.before.first_of in
-    last-read pre (sym kind-of.ensures ∙ c.before.before.before.if1.true) first_of.result c.before.second-of.result
+    last_read pre (sym kind-of.ensures ∙ c.before.before.before.if1.true) first_of.result c.before.second-of.result
     first_of.ensures c.before.second-of.ensures c.pool-state.result c.pool-state.ensures
 
 returns-2 : tie.Need-returns-2
-returns-2 c = rw c.before.kind-of.ensures (sym (path-other c.before.before.before.requires (λ e. c.if1.false (c.before.kind-of.ensures ∙ e))))
+returns-2 c = rw c.before.kind-of.ensures (sym (path_other c.before.before.before.requires (λ e. c.if1.false (c.before.kind-of.ensures ∙ e))))
 
 pub ends-in-mark-spec : {M : Type 1} → statement M
 ends-in-mark-spec =

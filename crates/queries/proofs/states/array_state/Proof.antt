@@ -2,7 +2,7 @@
 use borrow.Author.Rules.{rules}
 use native.Mathlib.Omega.{arith}
 use mathlib.Core.Path.{sym}
-use Rattle.queries.specs.EntryWords.{few, bounds-read, state-read, state-many-past}
+use Rattle.queries.specs.EntryWords.{few, bounds_read, state_read, state_many_past}
 use Rattle.queries.proofs.states.array_state.Statement.{statement}
 use Rattle.queries.proofs.states.array_state.Tie as tie
 
@@ -14,7 +14,7 @@ pool-state-requires c κs =
       omega (
         arith,
         c.before.if1.true,
-        bounds-read pre.0 pre.1 c.first_of.result second-of.result c.first_of.ensures
+        bounds_read pre.0 pre.1 c.first_of.result second-of.result c.first_of.ensures
             second-of.ensures,
       ),
     )
@@ -25,14 +25,14 @@ returns c =
     let args = c.before.before.before.before.before.before.args in
     let second-of = c.before.before.before.before.second-of in
     let first_of = c.before.before.first_of in
-    state-read pre.0 pre.1 first_of.result second-of.result first_of.ensures second-of.ensures args.index
+    state_read pre.0 pre.1 first_of.result second-of.result first_of.ensures second-of.ensures args.index
     c.before.before.before.if1.true c.before.pool-state.result c.expand.result.0 c.before.pool-state.ensures
     c.expand.ensures
 
 returns-2 : tie.Need-returns-2
 returns-2 c =
     let pre = c.before.before.before.requires in
-    sym (state-many-past pre.0 c.before.before.before.args.index pre.1 (omega (arith, c.before.second-of.ensures)))
+    sym (state_many_past pre.0 c.before.before.before.args.index pre.1 (omega (arith, c.before.second-of.ensures)))
 
 pub array-state-spec : {M : Type 1} → statement M
 array-state-spec =

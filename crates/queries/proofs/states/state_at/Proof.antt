@@ -3,7 +3,7 @@ use borrow.Author.Rules.{rules}
 use mathlib.Core.Path.{sym, ap, ◌∙◌}
 use Rattle.words.specs.Compact.{expanded}
 use Rattle.store.specs.Calls.{state}
-use Rattle.queries.specs.EntryWords.{few, state-other-past, state-one, state-zero}
+use Rattle.queries.specs.EntryWords.{few, state_other_past, state_one, state_zero}
 use Rattle.queries.proofs.states.state_at.Statement.{statement}
 use Rattle.queries.proofs.states.state_at.Tie as tie
 
@@ -20,7 +20,7 @@ returns-2 : tie.Need-returns-2
 returns-2 c =
     let pre = c.before.before.before.before.requires in
     let args = c.before.before.before.before.args in
-    sym (state-other-past pre args.index (λ e. c.before.if1.false (c.before.before.kind-of.ensures ∙ e)) c.if2.true)
+    sym (state_other_past pre args.index (λ e. c.before.if1.false (c.before.before.kind-of.ensures ∙ e)) c.if2.true)
 
 second-of-requires : tie.Need-second-of-requires
 second-of-requires c κs =
@@ -33,7 +33,7 @@ returns-3 c =
     let args = c.before.before.before.before.before.before.before.args in
     let kind-of = c.before.before.before.before.before.kind-of in
     ap state (c.expand.ensures ∙ ap expanded c.before.second-of.ensures) ∙ sym
-    (state-one pre args.index (sym kind-of.ensures ∙ c.before.before.if3.true) c.before.before.before.if2.false)
+    (state_one pre args.index (sym kind-of.ensures ∙ c.before.before.if3.true) c.before.before.before.if2.false)
 
 returns-4 : tie.Need-returns-4
 returns-4 c =
@@ -41,7 +41,7 @@ returns-4 c =
     let args = c.before.before.before.before.before.args in
     let kind-of = c.before.before.before.kind-of in
     sym
-    (state-zero pre args.index (λ e. c.before.before.if1.false (kind-of.ensures ∙ e)) (λ e. c.if3.false (kind-of.ensures ∙ e))
+    (state_zero pre args.index (λ e. c.before.before.if1.false (kind-of.ensures ∙ e)) (λ e. c.if3.false (kind-of.ensures ∙ e))
     c.before.if2.false)
 
 pub state-at-spec : {M : Type 1} → statement M

@@ -9,7 +9,7 @@ use borrow.Author.Tests.{lt-ltb, le-ltb}
 use Rattle.store.specs.declared.inner.admit.Admitted.TheVariants.{Ready as ready, Refused}
 use Rattle.outputs.specs.Outputs.{alts_length}
 use Rattle.verdicts.specs.Calls.{VerdictReply, verdict_left, most_stops}
-use Rattle.verdicts.specs.Opened.{ready_lent, short-output, left-refused, left_passed, left-due}
+use Rattle.verdicts.specs.Opened.{ready_lent, short_output, left_refused, left_passed, left_due}
 use Rattle.reasons.specs.Calls.{why_call}
 use Rattle.reasons.proofs.asked.why.Statement.{statement}
 use Rattle.reasons.proofs.asked.why.Tie as tie
@@ -19,7 +19,7 @@ unfolding why_call
 returns c =
     let args = c.before.before.before.before.before.before.args in
     let if1 = c.if1 in
-    short-output args.store.now args.set.now args.scratch.now alts_length args.output.now _ _ _ if1.true
+    short_output args.store.now args.set.now args.scratch.now alts_length args.output.now _ _ _ if1.true
 
 returns-2 : tie.Need-returns-2
 unfolding why_call
@@ -30,7 +30,7 @@ returns-2 c =
     let open-set = c.before.before.before.before.before.open-set in
     let opened = c.before.opened in
     let e : open-set.result ≡ Refused opened.given.0.0 = cc in
-    left-refused args.store.now args.set.now args.scratch.now alts_length args.output.now _ _ if1.false _
+    left_refused args.store.now args.set.now args.scratch.now alts_length args.output.now _ _ if1.false _
     opened.given.0.0 open-set.new.1.1.0 (rw e at open-set.ensures)
 
 returns-3 : tie.Need-returns-3
@@ -45,7 +45,7 @@ returns-3 c =
     let clear = c.before.before.clear in
     let e : open-set.result ≡ ready = enum_told.given.1 in
     let s = rw e at open-set.ensures in
-    left-due args.store.now args.set.now args.scratch.now alts_length args.output.now _ _ if1.false open-set.new.1.1.0 clear.new.0
+    left_due args.store.now args.set.now args.scratch.now alts_length args.output.now _ _ if1.false open-set.new.1.1.0 clear.new.0
     (ready_lent s.0).lent clear.ensures 10 (λ q. omega arith) _ (lt-ltb most_stops (length args.stops.now) if2.true) open-set.new.1.1.0 s
 
 reason-of-requires : tie.Need-reason-of-requires

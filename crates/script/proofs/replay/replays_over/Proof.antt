@@ -6,10 +6,10 @@ use Prim.Native.Nat.{◌-◌}
 use borrow.Author.Tests.{not_true, not_false}
 use lib.ListN.{length}
 use Rattle.replies.specs.Replies.{Lent, lent}
-use Rattle.steps.specs.Steps.Laws.{step-forward}
+use Rattle.steps.specs.Steps.Laws.{step_forward}
 use Rattle.steps.specs.Made.{Step, step_is}
 use Rattle.agreeing.specs.Agreeing.{affirmed, denied}
-use Rattle.script.specs.Replayed.{Told, told_start, told-not, told-within, told-next, told_over, told_all}
+use Rattle.script.specs.Replayed.{Told, told_start, told_not, told_within, told_next, told_over, told_all}
 use Rattle.script.proofs.replay.replays_over.Statement.{statement}
 use Rattle.script.proofs.replay.replays_over.Tie as tie
 
@@ -53,7 +53,7 @@ returns c =
     let agrees = c.before.agrees in
     let loop = c.before.before.before.before.before.before.before.before.before.before.before.before.before.loop in
     let at-run-step = c.before.before.before.before.before.before.before in
-    told-not loop.invariant (rw ran.given.1 at (stepped at-run-step)) (denied agrees.result (not_true _ c.if1.true) agrees.ensures)
+    told_not loop.invariant (rw ran.given.1 at (stepped at-run-step)) (denied agrees.result (not_true _ c.if1.true) agrees.ensures)
 
 add-told : tie.Need-overflow-add-told invariant-loop decreases-loop
 add-told c =
@@ -64,7 +64,7 @@ add-told c =
     let loop = back.before.loop in
     let at-run-step = c.before.before.before.before.before.before.before in
     let same = affirmed agrees.result (not_false _ c.if1.false) agrees.ensures in
-    omega (arith, good.1.0, told-within loop.invariant (rw ran.given.1 at (stepped at-run-step)) same)
+    omega (arith, good.1.0, told_within loop.invariant (rw ran.given.1 at (stepped at-run-step)) same)
 
 loop-less : tie.Need-loop-smaller invariant-loop decreases-loop
 loop-less c =
@@ -74,7 +74,7 @@ loop-less c =
     let args = back.before.before.before.before.before.before.before.before.before.args in
     let loop = back.before.loop in
     let step = rw ran.given.1 at (stepped at-run-step) in
-    omega (arith, step-forward args.script.now loop.at (before at-run-step) ran.given.0.1.0 step.after)
+    omega (arith, step_forward args.script.now loop.at (before at-run-step) ran.given.0.1.0 step.after)
 
 loop-again : tie.Need-loop-preserved invariant-loop decreases-loop
 loop-again c =
@@ -83,7 +83,7 @@ loop-again c =
     let loop = c.before.before.before.before.before.before.before.before.before.before.before.before.before.loop in
     let at-run-step = c.before.before.before.before.before.before.before in
     let same = affirmed agrees.result (not_false _ c.if1.false) agrees.ensures in
-    told-next loop.invariant (rw ran.given.1 at (stepped at-run-step)) same ran.given.0.1.0 refl
+    told_next loop.invariant (rw ran.given.1 at (stepped at-run-step)) same ran.given.0.1.0 refl
 
 agrees-requires-2 : tie.Need-agrees-requires-2 invariant-loop decreases-loop
 agrees-requires-2 c κs =
@@ -98,7 +98,7 @@ returns-2 c =
     let agrees = c.before.agrees2 in
     let loop = c.before.before.before.before.before.before.before.before.before.before.before.before.before.loop in
     let at-run-step = c.before.before.before.before.before.before.before in
-    told-not loop.invariant (rw ran.given.1 at (stepped at-run-step)) (denied agrees.result (not_true _ c.if2.true) agrees.ensures)
+    told_not loop.invariant (rw ran.given.1 at (stepped at-run-step)) (denied agrees.result (not_true _ c.if2.true) agrees.ensures)
 
 add-agrees-last : tie.Need-overflow-add-agrees-last invariant-loop decreases-loop
 add-agrees-last c =
@@ -110,7 +110,7 @@ add-agrees-last c =
     let loop = back.before.before.before.loop in
     let at-run-step = c.before.before.before.before.before.before.before.before.before in
     let same = affirmed agrees.result (not_false _ if2.false) agrees.ensures in
-    omega (arith, good.1.0, told-within loop.invariant (rw ran.given.1 at (stepped at-run-step)) same)
+    omega (arith, good.1.0, told_within loop.invariant (rw ran.given.1 at (stepped at-run-step)) same)
 
 agrees-last-requires : tie.Need-agrees-last-requires invariant-loop decreases-loop
 agrees-last-requires c κs =
@@ -120,7 +120,7 @@ agrees-last-requires c κs =
     let loop = c.before.before.before.before.before.before.before.before.before.before.before.before.before.before.before.loop in
     let at-run-step = c.before.before.before.before.before.before.before.before.before in
     let same = affirmed agrees.result (not_false _ if2.false) agrees.ensures in
-    told-within loop.invariant (rw ran.given.1 at (stepped at-run-step)) same
+    told_within loop.invariant (rw ran.given.1 at (stepped at-run-step)) same
 
 returns-3 : tie.Need-returns-3 invariant-loop decreases-loop
 returns-3 c =

@@ -7,7 +7,7 @@ use Rattle.format.specs.Answers.{reading, call_in}
 use Rattle.lines.specs.Lines.{refusal_line}
 use Rattle.lines.specs.Laid.Laws.{wrote_none, wrote_length}
 use Rattle.replies.specs.Replies.{lent}
-use Rattle.steps.specs.Answers.Laws.{step-long, step-ended, step-malformed, step-found, ran_over, ran-next}
+use Rattle.steps.specs.Answers.Laws.{step_long, step_ended, step_malformed, step_found, ran_over, ran_next}
 use Rattle.steps.proofs.run.run_step.Statement.{statement}
 use Rattle.steps.proofs.run.run_step.Tie as tie
 
@@ -18,7 +18,7 @@ returns c =
     let if1 = c.before.before.before.before.before.if1 in
     let words = lent args.store.now args.set.now args.stops.now args.scratch.now in (
       ran_over args.out.now _ _ _ (refusal_line 9) words _ refuse.ensures.0 refuse.ensures.1
-          (step-long args.bytes.now args.at words if1.true),
+          (step_long args.bytes.now args.at words if1.true),
       omega (arith, refuse.ensures.0.within, wrote_length refuse.ensures.0),
     )
 
@@ -38,8 +38,8 @@ returns-2 c =
     let decode = back.before.before.before.decode in
     let words = lent args.store.now args.set.now args.stops.now args.scratch.now in
     let next = step.given.0.1.0 in (
-      ran-next args.out.now _ _ _ _ next _ run-record.ensures
-          (step-found args.bytes.now args.at words if1.false (call_in args.bytes.now step.given.0.0) next
+      ran_next args.out.now _ _ _ _ next _ run-record.ensures
+          (step_found args.bytes.now args.at words if1.false (call_in args.bytes.now step.given.0.0) next
           (sym (ap (reading args.bytes.now) step.given.1) ∙ decode.ensures.0)),
       omega (arith, run-record.ensures.wrote.within, wrote_length run-record.ensures.wrote),
     )
@@ -53,7 +53,7 @@ returns-3 c =
     let decode = c.before.before.before.before.before.before.decode in
     let words = lent args.store.now args.set.now args.stops.now args.scratch.now in (
       ran_over args.out.now 0 _ _ [] words _ (wrote_none args.out.now 0 (omega arith)) wipe.ensures
-          (step-ended args.bytes.now args.at words if1.false (sym (ap (reading args.bytes.now) enum_told.given.1) ∙ decode.ensures.0)),
+          (step_ended args.bytes.now args.at words if1.false (sym (ap (reading args.bytes.now) enum_told.given.1) ∙ decode.ensures.0)),
       omega arith,
     )
 
@@ -66,7 +66,7 @@ returns-4 c =
     let decode = c.before.before.before.before.before.before.before.decode in
     let words = lent args.store.now args.set.now args.stops.now args.scratch.now in (
       ran_over args.out.now _ _ _ (refusal_line 9) words _ refuse.ensures.0 refuse.ensures.1
-          (step-malformed args.bytes.now args.at words if1.false (sym (ap (reading args.bytes.now) enum-told2.given.1) ∙ decode.ensures.0)),
+          (step_malformed args.bytes.now args.at words if1.false (sym (ap (reading args.bytes.now) enum-told2.given.1) ∙ decode.ensures.0)),
       omega (arith, refuse.ensures.0.within, wrote_length refuse.ensures.0),
     )
 

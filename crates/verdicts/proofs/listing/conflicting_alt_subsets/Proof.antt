@@ -8,7 +8,7 @@ use Rattle.grouping.specs.Clash.{configs_of}
 use Rattle.outputs.specs.Outputs.{subsets_length}
 use Rattle.verdicts.specs.Calls.{written, verdict_left, conflicting_alt_subsets_call}
 use Rattle.deciding.specs.Picked.{subsets_counted}
-use Rattle.verdicts.specs.Opened.{ready_lent, short-output, left-refused, left-answered}
+use Rattle.verdicts.specs.Opened.{ready_lent, short_output, left_refused, left_answered}
 use Rattle.verdicts.proofs.listing.conflicting_alt_subsets.Statement.{statement}
 use Rattle.verdicts.proofs.listing.conflicting_alt_subsets.Tie as tie
 
@@ -16,7 +16,7 @@ returns : tie.Need-returns
 unfolding conflicting_alt_subsets_call
 returns c =
     let args = c.before.before.before.before.before.args in
-    short-output args.store.now args.set.now args.scratch.now subsets_length args.output.now _ _ [] c.if1.true
+    short_output args.store.now args.set.now args.scratch.now subsets_length args.output.now _ _ [] c.if1.true
 
 returns-2 : tie.Need-returns-2
 unfolding conflicting_alt_subsets_call
@@ -26,7 +26,7 @@ returns-2 c =
     let open-set = c.before.before.before.before.before.open-set in
     let opened = c.before.opened in
     let e : open-set.result ≡ Refused opened.given.0.0 = cc in
-    left-refused args.store.now args.set.now args.scratch.now subsets_length args.output.now _ _ if1.false []
+    left_refused args.store.now args.set.now args.scratch.now subsets_length args.output.now _ _ if1.false []
     opened.given.0.0 open-set.new.1.1.0 (rw e at open-set.ensures)
 
 lead-all-requires : tie.Need-lead-all-requires
@@ -56,7 +56,7 @@ returns-3 c =
     let e : open-set.result ≡ ready = enum_told.given.1 in
     let s = rw e at open-set.ensures in
     ap (λ (o : List ℕ). verdict_left written clear.new.0 o) write-groups.ensures
-    ∙ left-answered args.store.now args.set.now args.scratch.now subsets_length args.output.now _ _ if1.false
+    ∙ left_answered args.store.now args.set.now args.scratch.now subsets_length args.output.now _ _ if1.false
     lead-all.new.1.0 clear.new.0 lead-all.ensures.0.words.lent clear.ensures open-set.new.1.1.0 s
 
 pub conflicting-alt-subsets-spec : {M : Type 1} → statement M

@@ -4,7 +4,7 @@ use mathlib.Core.Path.{◌≡◌, refl, ap, ◌∙◌}
 use mathlib.Core.List.{[]}
 use Rattle.store.specs.declared.inner.admit.Admitted.TheVariants.{Ready as ready, Refused}
 use Rattle.verdicts.specs.Calls.{VerdictReply, alternative, verdict_left, single_viable_alt_call}
-use Rattle.verdicts.specs.Opened.{ready_lent, left-refused, left-answered}
+use Rattle.verdicts.specs.Opened.{ready_lent, left_refused, left_answered}
 use Rattle.verdicts.proofs.single.single_viable_alt.Statement.{statement}
 use Rattle.verdicts.proofs.single.single_viable_alt.Tie as tie
 
@@ -15,7 +15,7 @@ returns c =
     let open-set = c.before.before.before.before.before.open-set in
     let opened = c.before.opened in
     let e : open-set.result ≡ Refused opened.given.0.0 = cc in
-    left-refused args.store.now args.set.now args.scratch.now 0 [] _ [] refl [] opened.given.0.0 open-set.new.1.1.0 (rw e at open-set.ensures)
+    left_refused args.store.now args.set.now args.scratch.now 0 [] _ [] refl [] opened.given.0.0 open-set.new.1.1.0 (rw e at open-set.ensures)
 
 viable-alt-requires : tie.Need-viable-alt-requires
 viable-alt-requires c κs =
@@ -34,7 +34,7 @@ returns-2 c =
     let e : open-set.result ≡ ready = enum_told.given.1 in
     let s = rw e at open-set.ensures in
     ap (λ (r : VerdictReply). verdict_left r clear.new.0 []) (c.found.ensures ∙ ap alternative viable-alt.ensures.0)
-    ∙ left-answered args.store.now args.set.now args.scratch.now 0 [] _ [] refl viable-alt.new.1.0 clear.new.0
+    ∙ left_answered args.store.now args.set.now args.scratch.now 0 [] _ [] refl viable-alt.new.1.0 clear.new.0
     viable-alt.ensures.1.lent clear.ensures open-set.new.1.1.0 s
 
 pub single-viable-alt-spec : {M : Type 1} → statement M

@@ -6,7 +6,7 @@ use Rattle.store.specs.declared.inner.admit.Admitted.TheVariants.{Ready as ready
 use Rattle.grouping.specs.Clash.{configs_of}
 use Rattle.verdicts.specs.Calls.{VerdictReply, says, verdict_left, all_subsets_conflict_call}
 use Rattle.deciding.specs.Picked.{conflict_picked}
-use Rattle.verdicts.specs.Opened.{ready_lent, left-refused, left-answered}
+use Rattle.verdicts.specs.Opened.{ready_lent, left_refused, left_answered}
 use Rattle.verdicts.proofs.subsets.all_subsets_conflict.Statement.{statement}
 use Rattle.verdicts.proofs.subsets.all_subsets_conflict.Tie as tie
 
@@ -17,7 +17,7 @@ returns c =
     let open-set = c.before.before.before.before.before.open-set in
     let opened = c.before.opened in
     let e : open-set.result ≡ Refused opened.given.0.0 = cc in
-    left-refused args.store.now args.set.now args.scratch.now 0 [] _ [] refl [] opened.given.0.0 open-set.new.1.1.0 (rw e at open-set.ensures)
+    left_refused args.store.now args.set.now args.scratch.now 0 [] _ [] refl [] opened.given.0.0 open-set.new.1.1.0 (rw e at open-set.ensures)
 
 each-picked-requires : tie.Need-each-picked-requires
 each-picked-requires c κs =
@@ -38,7 +38,7 @@ returns-2 c =
     let s = rw e at open-set.ensures in
     let yes = each-picked in
     ap (λ (r : VerdictReply). verdict_left r clear.new.0 []) (c.answer.ensures ∙ ap says (yes.ensures.0 ∙ conflict_picked (configs_of args.set.now)))
-    ∙ left-answered args.store.now args.set.now args.scratch.now 0 [] _ [] refl yes.new.1.0 clear.new.0 yes.ensures.1.lent clear.ensures open-set.new.1.1.0 s
+    ∙ left_answered args.store.now args.set.now args.scratch.now 0 [] _ [] refl yes.new.1.0 clear.new.0 yes.ensures.1.lent clear.ensures open-set.new.1.1.0 s
 
 pub all-subsets-conflict-spec : {M : Type 1} → statement M
 all-subsets-conflict-spec =

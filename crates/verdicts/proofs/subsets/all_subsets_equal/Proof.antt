@@ -4,7 +4,7 @@ use mathlib.Core.Path.{◌≡◌, refl, ap, ◌∙◌}
 use mathlib.Core.List.{[]}
 use Rattle.store.specs.declared.inner.admit.Admitted.TheVariants.{Ready as ready, Refused}
 use Rattle.verdicts.specs.Calls.{VerdictReply, says, verdict_left, all_subsets_equal_call}
-use Rattle.verdicts.specs.Opened.{ready_lent, left-refused, left-answered}
+use Rattle.verdicts.specs.Opened.{ready_lent, left_refused, left_answered}
 use Rattle.verdicts.proofs.subsets.all_subsets_equal.Statement.{statement}
 use Rattle.verdicts.proofs.subsets.all_subsets_equal.Tie as tie
 
@@ -15,7 +15,7 @@ returns c =
     let open-set = c.before.before.before.before.before.open-set in
     let opened = c.before.opened in
     let e : open-set.result ≡ Refused opened.given.0.0 = cc in
-    left-refused args.store.now args.set.now args.scratch.now 0 [] _ [] refl [] opened.given.0.0 open-set.new.1.1.0 (rw e at open-set.ensures)
+    left_refused args.store.now args.set.now args.scratch.now 0 [] _ [] refl [] opened.given.0.0 open-set.new.1.1.0 (rw e at open-set.ensures)
 
 subsets-equal-requires : tie.Need-subsets-equal-requires
 subsets-equal-requires c κs =
@@ -36,7 +36,7 @@ returns-2 c =
     let s = rw e at open-set.ensures in
     let yes = subsets-equal in
     ap (λ (r : VerdictReply). verdict_left r clear.new.0 []) (c.answer.ensures ∙ ap says yes.ensures.0)
-    ∙ left-answered args.store.now args.set.now args.scratch.now 0 [] _ [] refl yes.new.1.0 clear.new.0 yes.ensures.1.lent clear.ensures open-set.new.1.1.0 s
+    ∙ left_answered args.store.now args.set.now args.scratch.now 0 [] _ [] refl yes.new.1.0 clear.new.0 yes.ensures.1.lent clear.ensures open-set.new.1.1.0 s
 
 pub all-subsets-equal-spec : {M : Type 1} → statement M
 all-subsets-equal-spec =

@@ -3,7 +3,7 @@ use native.Mathlib.Omega.{arith}
 use mathlib.Core.Path.{◌≡◌, refl}
 use Prim.Native.Nat.{◌-◌, ◌≤◌}
 use lib.ListN.{take, drop}
-use Rattle.agreeing.specs.Agreeing.{agree-short, agree_more, agree-not}
+use Rattle.agreeing.specs.Agreeing.{agree_short, agree_more, agree_not}
 use Rattle.agreeing.proofs.inner.agree.agrees.Statement.{statement}
 use Rattle.agreeing.proofs.inner.agree.agrees.Tie as tie
 
@@ -17,7 +17,7 @@ sub-if1 : tie.Need-overflow-sub-if1 invariant-loop decreases-loop
 sub-if1 c = omega arith
 
 returns : tie.Need-returns invariant-loop decreases-loop
-returns c = agree-short c.before.args.answer.now c.before.args.out.now c.before.args.at c.before.args.wrote c.before.requires.0 c.if1.true
+returns c = agree_short c.before.args.answer.now c.before.args.out.now c.before.args.at c.before.args.wrote c.before.requires.0 c.if1.true
 
 loop-holds : tie.Need-loop-init invariant-loop decreases-loop
 loop-holds c = (omega arith, refl)
@@ -39,7 +39,7 @@ returns-2 : tie.Need-returns-2 invariant-loop decreases-loop
 returns-2 c =
     let args = c.before.before.before.before.before.before.args in
     let loop = c.before.before.before.before.loop in
-    agree-not args.answer.now args.out.now args.at args.wrote loop.i c.before.before.before.loop-test.true c.if2.true
+    agree_not args.answer.now args.out.now args.at args.wrote loop.i c.before.before.before.loop-test.true c.if2.true
 
 add-i : tie.Need-overflow-add-i invariant-loop decreases-loop
 add-i c = omega arith

@@ -4,7 +4,7 @@ use native.Mathlib.Omega.{arith}
 use borrow.Author.Tests.{not_true, not_false}
 use Rattle.lines.specs.Lines.{end_line}
 use Rattle.lines.specs.Laid.Laws.{wrote_length}
-use Rattle.agreeing.specs.Agreeing.{affirmed, denied, last-not, last-same, last-longer}
+use Rattle.agreeing.specs.Agreeing.{affirmed, denied, last_not, last_same, last_longer}
 use Rattle.agreeing.proofs.inner.agree.agrees_last.Statement.{statement}
 use Rattle.agreeing.proofs.inner.agree.agrees_last.Tie as tie
 
@@ -20,7 +20,7 @@ returns c =
     let pre = c.before.before.before.before.before.before.before.requires in
     let lay-end = c.before.before.before.before.lay-end in
     let agrees = c.before.agrees in
-    last-not args.answer.now args.at pre (end_line args.store.now) args.out.now lay-end.result lay-end.new.0
+    last_not args.answer.now args.at pre (end_line args.store.now) args.out.now lay-end.result lay-end.new.0
     lay-end.ensures (denied agrees.result (not_true _ c.if1.true) agrees.ensures)
 
 returns-2 : tie.Need-returns-2
@@ -29,7 +29,7 @@ returns-2 c =
     let pre = c.before.before.before.before.before.before.before.before.requires in
     let lay-end = c.before.before.before.before.before.lay-end in
     let agrees = c.before.before.agrees in
-    last-same args.answer.now args.at pre (end_line args.store.now) args.out.now lay-end.result lay-end.new.0
+    last_same args.answer.now args.at pre (end_line args.store.now) args.out.now lay-end.result lay-end.new.0
     lay-end.ensures (affirmed agrees.result (not_false _ c.before.if1.false) agrees.ensures) (omega (arith, c.if2.true, pre))
 
 returns-3 : tie.Need-returns-3
@@ -37,7 +37,7 @@ returns-3 c =
     let args = c.before.before.before.before.before.before.before.before.args in
     let pre = c.before.before.before.before.before.before.before.before.requires in
     let lay-end = c.before.before.before.before.before.lay-end in
-    last-longer args.answer.now args.at pre (end_line args.store.now) args.out.now lay-end.result lay-end.new.0
+    last_longer args.answer.now args.at pre (end_line args.store.now) args.out.now lay-end.result lay-end.new.0
     lay-end.ensures (λ e. c.if2.false (omega (arith, pre)))
 
 pub agrees-last-spec : {M : Type 1} → statement M

@@ -1,7 +1,7 @@
 -- By the record.
 use borrow.Author.Rules.{rules}
 use native.Mathlib.Omega.{arith}
-use Rattle.calls.specs.Called.{stops_within, call-singleton, call-merge, call-show, call-stops, call-set}
+use Rattle.calls.specs.Called.{stops_within, call_singleton, call_merge, call_show, call_stops, call_set}
 use Rattle.calls.proofs.inner.run.run_record.Statement.{statement}
 use Rattle.calls.proofs.inner.run.run_record.Tie as tie
 
@@ -37,7 +37,7 @@ returns c =
     let args = c.before.before.before.before.before.before.before.before.before.before.before.before.before.before.before.before.before.before.args in
     let call = c.before.before.before.before.before.before.before.before.before.before.before.call in
     let singleton = c.before.before.before.before.before.before.singleton in
-    call-singleton args.out.now args.bytes.now args.store.now args.set.now args.stops.now args.scratch.now args.call _ _
+    call_singleton args.out.now args.bytes.now args.store.now args.set.now args.stops.now args.scratch.now args.call _ _
     call.given.0.0 call.given.0.1.0 call.given.1 _ _ singleton.ensures
 
 returns-2 : tie.Need-returns-2
@@ -45,7 +45,7 @@ returns-2 c =
     let args = c.before.before.before.before.before.before.before.before.before.before.before.before.before.before.before.before.before.before.args in
     let call2 = c.before.before.before.before.before.before.before.before.before.before.before.call2 in
     let merge = c.before.before.before.before.before.before.merge in
-    call-merge args.out.now args.bytes.now args.store.now args.set.now args.stops.now args.scratch.now args.call _ _
+    call_merge args.out.now args.bytes.now args.store.now args.set.now args.stops.now args.scratch.now args.call _ _
     call2.given.0.0 call2.given.0.1.0 call2.given.0.1.1.0 call2.given.1 _ _ merge.ensures
 
 returns-3 : tie.Need-returns-3
@@ -53,7 +53,7 @@ returns-3 c =
     let args = c.before.before.before.before.before.before.before.before.before.before.before.before.before.before.before.before.args in
     let call3 = c.before.before.before.before.before.before.before.before.before.call3 in
     let show = c.before.before.before.before.show in
-    call-show args.out.now args.bytes.now args.store.now args.set.now args.stops.now args.scratch.now args.call _ _
+    call_show args.out.now args.bytes.now args.store.now args.set.now args.stops.now args.scratch.now args.call _ _
     call3.given.0.0 call3.given.1 _ show.ensures
 
 returns-4 : tie.Need-returns-4
@@ -62,7 +62,7 @@ returns-4 c =
     let call4 = c.before.before.before.before.before.before.before.before.before.before.call4 in
     let wipe = c.before.before.before.before.before.before.before.wipe in
     let hold = c.before.before.hold in
-    call-stops args.out.now args.bytes.now args.store.now args.set.now args.stops.now args.scratch.now args.call _ _
+    call_stops args.out.now args.bytes.now args.store.now args.set.now args.stops.now args.scratch.now args.call _ _
     call4.given.0.0 call4.given.0.1.0 call4.given.1 _ _ wipe.ensures hold.ensures
 
 returns-5 : tie.Need-returns-5
@@ -71,7 +71,7 @@ returns-5 c =
     let args = back.before.before.before.before.before.before.before.before.before.before.before.args in
     let call5 = back.before.before.before.before.call5 in
     let run-set-record = c.before.before.before.before.before.before.before.before.run-set-record in
-    call-set args.out.now args.bytes.now args.store.now args.set.now args.stops.now args.scratch.now args.call _ _
+    call_set args.out.now args.bytes.now args.store.now args.set.now args.stops.now args.scratch.now args.call _ _
     call5.given.0.0 call5.given.1 _ _ _ run-set-record.ensures
 
 pub run-record-spec : {M : Type 1} → statement M

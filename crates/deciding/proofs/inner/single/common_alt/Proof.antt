@@ -4,7 +4,7 @@ use mathlib.Core.Path.{sym, ap, ◌∙◌}
 use Prim.Native.Nat.{◌<◌, ◌≤◌, ◌-◌}
 use native.Mathlib.Omega.{arith}
 use Rattle.sets.specs.Layout.{config_count}
-use Rattle.deciding.specs.Alone.{Same, unique_none, unique-two, unique-one, same_begin, same_more}
+use Rattle.deciding.specs.Alone.{Same, unique_none, unique_two, unique_one, same_begin, same_more}
 use Rattle.groups.specs.Answers.{only}
 use Rattle.deciding.proofs.inner.single.common_alt.Statement.{statement}
 use Rattle.deciding.proofs.inner.single.common_alt.Tie as tie
@@ -47,7 +47,7 @@ returns-2 c =
     let config-count = c.before.before.before.before.before.before.config-count in
     let loop = c.before.before.before.loop in
     let loop-test = c.before.before.loop-test in
-    sym (unique-two args.set.now loop.place (omega (arith, loop-test.true, config-count.ensures))
+    sym (unique_two args.set.now loop.place (omega (arith, loop-test.true, config-count.ensures))
     (λ e. c.if2.true (c.before.alternative-of2.ensures ∙ e ∙ sym alternative-of.ensures)))
 
 add-place : tie.Need-overflow-add-place invariant-loop decreases-loop
@@ -76,7 +76,7 @@ returns-3 c =
     let args = c.before.before.before.before.before.before.args in
     let config-count = c.before.before.before.before.config-count in
     let loop = c.before.loop in
-    ap only alternative-of.ensures ∙ sym (unique-one args.set.now (omega (arith, loop.invariant.0, loop.invariant.1))
+    ap only alternative-of.ensures ∙ sym (unique_one args.set.now (omega (arith, loop.invariant.0, loop.invariant.1))
     (λ i l. loop.invariant.2 i (omega (arith, l, c.loop-test.false, config-count.ensures))))
 
 pub common-alt-spec : {M : Type 1} → statement M

@@ -7,7 +7,7 @@ use native.Mathlib.Omega.{arith}
 use borrow.Author.Count.{below_more}
 use borrow.Author.Tests.{not_true, not_false}
 use Rattle.sets.specs.Layout.{config_count}
-use Rattle.deciding.specs.Stops.{Stop, stopped-all, stopped-not}
+use Rattle.deciding.specs.Stops.{Stop, stopped_all, stopped_not}
 use Rattle.deciding.proofs.inner.verdict.all_stopped.Statement.{statement}
 use Rattle.deciding.proofs.inner.verdict.all_stopped.Tie as tie
 
@@ -37,7 +37,7 @@ returns c =
     let loop = c.before.before.before.loop in
     let loop-test = c.before.before.loop-test in
     let stops-too = c.before.stops-too in
-    sym (stopped-not args.stops.now args.set.now loop.place (omega (arith, loop-test.true, config-count.ensures)) (sym stops-too.ensures ∙ not_true _ c.if1.true))
+    sym (stopped_not args.stops.now args.set.now loop.place (omega (arith, loop-test.true, config-count.ensures)) (sym stops-too.ensures ∙ not_true _ c.if1.true))
 
 add-place : tie.Need-overflow-add-place invariant-loop decreases-loop
 add-place c =
@@ -64,7 +64,7 @@ returns-2 c =
     let args = c.before.before.before.before.before.args in
     let config-count = c.before.before.config-count in
     let loop = c.before.loop in
-    sym (stopped-all args.stops.now args.set.now (λ i l. loop.invariant.1 i (omega (arith, l, c.loop-test.false, config-count.ensures))))
+    sym (stopped_all args.stops.now args.set.now (λ i l. loop.invariant.1 i (omega (arith, l, c.loop-test.false, config-count.ensures))))
 
 pub all-stopped-spec : {M : Type 1} → statement M
 all-stopped-spec =

@@ -3,7 +3,7 @@ use borrow.Author.Rules.{rules}
 use mathlib.Core.Path.{sym, ◌∙◌}
 use Prim.Native.Nat.{◌+◌, ◌-◌}
 use native.Mathlib.Omega.{arith}
-use Rattle.grouping.specs.Clash.{leader-less, clash-found, clash-none, Agreeing, agree_more}
+use Rattle.grouping.specs.Clash.{leader_less, clash_found, clash_none, Agreeing, agree_more}
 use Rattle.grouping.proofs.inner.clash.clashes.Statement.{statement}
 use Rattle.grouping.proofs.inner.clash.clashes.Tie as tie
 
@@ -52,7 +52,7 @@ alternative-of-requires-2 c κs =
     let loop = c.before.before.before.loop in
     let loop-test = c.before.before.loop-test in
     let pre = c.before.before.before.before.before.before.before.requires in
-    (pre.words.sized, omega (arith, leader-less pre loop.place (omega (arith, loop-test.true, config-count.ensures)), pre.words.few))
+    (pre.words.sized, omega (arith, leader_less pre loop.place (omega (arith, loop-test.true, config-count.ensures)), pre.words.few))
 
 returns : tie.Need-returns invariant-loop decreases-loop
 returns c =
@@ -61,7 +61,7 @@ returns c =
     let loop = c.before.before.before.before.before.loop in
     let loop-test = c.before.before.before.before.loop-test in
     let pre = c.before.before.before.before.before.before.before.before.before.requires in
-    sym (clash-found pre loop.place (omega (arith, loop-test.true, config-count.ensures)) (λ e. c.if1.true (alternative-of.ensures ∙ e ∙ sym c.before.alternative-of2.ensures)))
+    sym (clash_found pre loop.place (omega (arith, loop-test.true, config-count.ensures)) (λ e. c.if1.true (alternative-of.ensures ∙ e ∙ sym c.before.alternative-of2.ensures)))
 
 add-place : tie.Need-overflow-add-place invariant-loop decreases-loop
 add-place c =
@@ -87,7 +87,7 @@ returns-2 : tie.Need-returns-2 invariant-loop decreases-loop
 returns-2 c =
     let config-count = c.before.before.config-count in
     let pre = c.before.before.before.before.before.requires in
-    sym (clash-none pre (λ i l. c.before.loop.invariant.agree i (omega (arith, l, c.loop-test.false, config-count.ensures))))
+    sym (clash_none pre (λ i l. c.before.loop.invariant.agree i (omega (arith, l, c.loop-test.false, config-count.ensures))))
 
 pub clashes-spec : {M : Type 1} → statement M
 clashes-spec =

@@ -2,7 +2,7 @@
 use borrow.Author.Rules.{rules}
 use mathlib.Core.Path.{sym, ◌∙◌}
 use native.Mathlib.Omega.{arith}
-use Rattle.grouping.specs.Find.{WalkingAlike, walk-begin, walk_here, walk-hit, walk-on, walk_end, compared}
+use Rattle.grouping.specs.Find.{WalkingAlike, walk_begin, walk_here, walk_hit, walk_on, walk_end, compared}
 use Rattle.grouping.proofs.inner.lead.find_alike.Statement.{statement}
 use Rattle.grouping.proofs.inner.lead.find_alike.Tie as tie
 
@@ -28,7 +28,7 @@ shared-slice-read-next c =
 loop-holds : tie.Need-loop-init invariant-loop decreases-loop
 loop-holds c =
     let pre = c.before.before.before.before.requires in
-    walk-begin pre
+    walk_begin pre
 
 sub-before : tie.Need-overflow-sub-before invariant-loop decreases-loop
 sub-before c = omega arith
@@ -51,7 +51,7 @@ returns c =
     let traits-of = c.before.before.before.before.before.before.traits-of in
     let traits-of2 = c.before.before.traits-of2 in
     let e = compared args.set.now args.alike _ args.place _ _ _ c.before.same-traits.ensures traits-of2.ensures traits-of.ensures in
-    sym (walk-hit pre loop.next loop-test.true loop.invariant (sym e ∙ c.if1.true))
+    sym (walk_hit pre loop.next loop-test.true loop.invariant (sym e ∙ c.if1.true))
 
 add-next-2 : tie.Need-overflow-add-next-2 invariant-loop decreases-loop
 add-next-2 c =
@@ -77,7 +77,7 @@ loop-less c =
     let traits-of = c.before.before.before.before.before.before.before.traits-of in
     let traits-of2 = c.before.before.before.traits-of2 in
     let e = compared args.set.now args.alike _ args.place _ _ _ same-traits.ensures traits-of2.ensures traits-of.ensures in
-    (walk-on pre loop.next loop-test.true loop.invariant (sym e ∙ c.before.if1.false)).1
+    (walk_on pre loop.next loop-test.true loop.invariant (sym e ∙ c.before.if1.false)).1
 
 loop-again : tie.Need-loop-preserved invariant-loop decreases-loop
 loop-again c =
@@ -89,7 +89,7 @@ loop-again c =
     let traits-of = c.before.before.before.before.before.before.before.traits-of in
     let traits-of2 = c.before.before.before.traits-of2 in
     let e = compared args.set.now args.alike _ args.place _ _ _ same-traits.ensures traits-of2.ensures traits-of.ensures in
-    (walk-on pre loop.next loop-test.true loop.invariant (sym e ∙ c.before.if1.false)).0
+    (walk_on pre loop.next loop-test.true loop.invariant (sym e ∙ c.before.if1.false)).0
 
 returns-2 : tie.Need-returns-2 invariant-loop decreases-loop
 returns-2 c =

@@ -4,7 +4,7 @@ use mathlib.Core.Path.{◌≡◌, sym, ◌∙◌}
 use native.Mathlib.Omega.{arith}
 use lib.ListN.{length-set}
 use Rattle.setcheck.specs.declared.inner.keys.KeyPlace.TheVariants.{At}
-use Rattle.grouping.specs.Step.{seeks, found_at, found_none, chained-length, leads-first, earlier, leads-later}
+use Rattle.grouping.specs.Step.{seeks, found_at, found_none, chained_length, leads_first, earlier, leads_later}
 use Rattle.grouping.proofs.inner.lead.lead.Statement.{statement}
 use Rattle.grouping.proofs.inner.lead.lead.Tie as tie
 
@@ -20,7 +20,7 @@ slice-write-scratch-2 c =
     let traits-bucket = c.before.before.before.before.before.before.before.before.traits-bucket in
     let traits-of = c.before.before.before.before.before.before.before.before.before.traits-of in
     let s = seeks pre traits-of.ensures traits-bucket.ensures in
-    simp length-set (omega (arith, s.few, chained-length s link-key.ensures))
+    simp length-set (omega (arith, s.few, chained_length s link-key.ensures))
 
 returns : tie.Need-returns
 returns c =
@@ -30,7 +30,7 @@ returns c =
     let traits-bucket = c.before.before.before.before.before.before.before.before.traits-bucket in
     let traits-of = c.before.before.before.before.before.before.before.before.before.traits-of in
     let s = seeks pre traits-of.ensures traits-bucket.ensures in
-    leads-first s link-key.ensures (found_none c.enum_told.given.1 find-alike.ensures)
+    leads_first s link-key.ensures (found_none c.enum_told.given.1 find-alike.ensures)
 
 follow-requires : tie.Need-follow-requires
 follow-requires c κs =
@@ -43,7 +43,7 @@ follow-requires c κs =
     let s = seeks pre traits-of.ensures traits-bucket.ensures in
     let m = found.given.0.0 in
     let e : find-alike.result ≡ At m = cc in
-    (simp length-set (chained-length s link-key.ensures), s.few, omega (arith, s.few, earlier s link-key.ensures m (found_at m e find-alike.ensures)))
+    (simp length-set (chained_length s link-key.ensures), s.few, omega (arith, s.few, earlier s link-key.ensures m (found_at m e find-alike.ensures)))
 
 same-length-2 : tie.Need-same-length-2
 same-length-2 c =
@@ -57,7 +57,7 @@ same-length-2 c =
     let s = seeks pre traits-of.ensures traits-bucket.ensures in
     let m = found.given.0.0 in
     let e : find-alike.result ≡ At m = cc in
-    (leads-later s link-key.ensures m (found_at m e find-alike.ensures) follow.ensures).0.words.lent ∙ sym pre.0.words.lent
+    (leads_later s link-key.ensures m (found_at m e find-alike.ensures) follow.ensures).0.words.lent ∙ sym pre.0.words.lent
 
 returns-2 : tie.Need-returns-2
 returns-2 c =
@@ -71,7 +71,7 @@ returns-2 c =
     let s = seeks pre traits-of.ensures traits-bucket.ensures in
     let m = found.given.0.0 in
     let e : find-alike.result ≡ At m = cc in
-    leads-later s link-key.ensures m (found_at m e find-alike.ensures) follow.ensures
+    leads_later s link-key.ensures m (found_at m e find-alike.ensures) follow.ensures
 
 pub lead-spec : {M : Type 1} → statement M
 lead-spec =

@@ -3,7 +3,7 @@ use borrow.Author.Rules.{rules}
 use mathlib.Core.Path.{sym, ◌∙◌}
 use Prim.Native.Nat.{◌-◌}
 use native.Mathlib.Omega.{arith}
-use Rattle.grouping.specs.Step.{FirstsSoFar, gather_none, gather-asks, gather-next, gather-fits, gather_all}
+use Rattle.grouping.specs.Step.{FirstsSoFar, gather_none, gather_asks, gather_next, gather_fits, gather_all}
 use Rattle.grouping.proofs.inner.lead.lead_all.Statement.{statement}
 use Rattle.grouping.proofs.inner.lead.lead_all.Tie as tie
 
@@ -34,7 +34,7 @@ lead-requires : tie.Need-lead-requires invariant-loop decreases-loop
 lead-requires c κs =
     let config-count = c.before.before.before.config-count in
     let loop = c.before.before.loop in
-    gather-asks loop.invariant (omega (arith, c.before.loop-test.true, config-count.ensures))
+    gather_asks loop.invariant (omega (arith, c.before.loop-test.true, config-count.ensures))
 
 add-firsts : tie.Need-overflow-add-firsts invariant-loop decreases-loop
 add-firsts c =
@@ -42,7 +42,7 @@ add-firsts c =
     let lead = c.before.before.lead in
     let loop = c.before.before.before.before.before.loop in
     let loop-test = c.before.before.before.before.loop-test in
-    omega (arith, gather-fits loop.invariant (omega (arith, loop-test.true, config-count.ensures)) lead.new.1.0 lead.result lead.ensures)
+    omega (arith, gather_fits loop.invariant (omega (arith, loop-test.true, config-count.ensures)) lead.new.1.0 lead.result lead.ensures)
 
 add-place : tie.Need-overflow-add-place invariant-loop decreases-loop
 add-place c =
@@ -62,7 +62,7 @@ loop-again c =
     let lead = c.before.before.lead in
     let loop = c.before.before.before.before.before.loop in
     let loop-test = c.before.before.before.before.loop-test in
-    gather-next loop.invariant (omega (arith, loop-test.true, config-count.ensures)) lead.new.1.0 lead.result lead.ensures
+    gather_next loop.invariant (omega (arith, loop-test.true, config-count.ensures)) lead.new.1.0 lead.result lead.ensures
 
 same_length : tie.Need-same-length invariant-loop decreases-loop
 same_length c =

@@ -2,13 +2,13 @@
 use borrow.Author.Rules.{rules}
 use native.Mathlib.Omega.{arith}
 use mathlib.Core.Path.{sym, ◌∙◌}
-use Rattle.interning.specs.Making.{none-pushed, dollar-pushed, proper-of}
+use Rattle.interning.specs.Making.{none_pushed, dollar_pushed, proper_of}
 use Rattle.interning.proofs.inner.intern.intern_entries.Statement.{statement}
 use Rattle.interning.proofs.inner.intern.intern_entries.Tie as tie
 
 returns : tie.Need-returns
 returns c =
-    none-pushed c.before.before.before.requires.0 c.if1.true
+    none_pushed c.before.before.before.requires.0 c.if1.true
 
 stack-state-requires : tie.Need-stack-state-requires
 stack-state-requires c κs =
@@ -18,7 +18,7 @@ stack-state-requires c κs =
 returns-2 : tie.Need-returns-2
 returns-2 c =
     let pre = c.before.before.before.before.before.before.requires.0 in
-    dollar-pushed pre c.before.before.before.if1.false
+    dollar_pushed pre c.before.before.before.if1.false
     (sym c.before.stack-state.ensures ∙ c.if2.true)
 
 intern-proper-requires : tie.Need-intern-proper-requires
@@ -26,7 +26,7 @@ intern-proper-requires c κs =
     let pre = c.before.before.before.before.before.before.before.before.requires in
     let if1 = c.before.before.before.before.before.if1 in (
       pre.0,
-      proper-of pre.0 if1.false
+      proper_of pre.0 if1.false
           (λ e. c.before.before.if2.false (c.before.before.before.stack-state.ensures ∙ e)),
       pre.1,
       pre.2,

@@ -4,24 +4,24 @@ use native.Mathlib.Omega.{arith}
 use mathlib.Core.Path.{refl, ap, ◌∙◌}
 use lib.ListN.{length}
 use Rattle.encoding.specs.Writes.{length_fill, length_put_record}
-use Rattle.interning.specs.Live.{live-length, live-sound}
-use Rattle.interning.specs.Making.{no-context, no_entries, read-array, pushed-512}
+use Rattle.interning.specs.Live.{live_length, live_sound}
+use Rattle.interning.specs.Making.{no_context, no_entries, read_array, pushed_512}
 use Rattle.interning.proofs.inner.intern.push_array.Statement.{statement}
 use Rattle.interning.proofs.inner.intern.push_array.Tie as tie
 
 count-of-requires : tie.Need-count-of-requires
 count-of-requires c κs =
-    live-length c.before.before.before.requires.0.pushed.live
+    live_length c.before.before.before.requires.0.pushed.live
 
 used-of-requires : tie.Need-used-of-requires
 used-of-requires c κs =
     let pre = c.before.before.before.before.before.requires in
-    live-length pre.0.pushed.live
+    live_length pre.0.pushed.live
 
 returns : tie.Need-returns
 returns c =
     let pre = c.before.before.before.before.before.before.before.requires in (
-      no-context pre.0
+      no_context pre.0
           (rw c.before.before.before.count_of.ensures at c.if1.true),
       refl,
       refl,
@@ -30,7 +30,7 @@ returns c =
 sub-if2 : tie.Need-overflow-sub-if2
 sub-if2 c =
     let pre = c.before.before.before.before.before.before.before.requires in
-    omega (arith, c.before.used-of.ensures, (live-sound pre.0.pushed.live).counted.2)
+    omega (arith, c.before.used-of.ensures, (live_sound pre.0.pushed.live).counted.2)
 
 returns-2 : tie.Need-returns-2
 returns-2 c =
@@ -46,18 +46,18 @@ fill-pool-requires c κs =
     let pre = c.before.before.before.before.before.before.before.before.before.before.requires in
     let used-of = c.before.before.before.before.used-of in (
       (
-        live-length pre.0.pushed.live,
+        live_length pre.0.pushed.live,
         omega
-            (arith, used-of.ensures, (live-sound pre.0.pushed.live).counted.2),
+            (arith, used-of.ensures, (live_sound pre.0.pushed.live).counted.2),
       ),
-      pushed-512 pre.0.pushed,
+      pushed_512 pre.0.pushed,
     )
 
 put-record-requires : tie.Need-put-record-requires
 put-record-requires c κs =
     let pre = c.before.before.before.before.before.before.before.before.before.before.before.before.before.before.requires in
     let if1 = c.before.before.before.before.before.before.before.if1 in (
-      ap length c.before.before.before.fill-pool.ensures ∙ length_fill _ _ _ ∙ live-length
+      ap length c.before.before.before.fill-pool.ensures ∙ length_fill _ _ _ ∙ live_length
           pre.0.pushed.live,
       if1.false,
     )
@@ -68,10 +68,10 @@ put-counts-requires c κs =
     let used-of = c.before.before.before.before.before.before.before.before.before.before.before.before.used-of in
     let fill-pool = c.before.before.before.before.before.before.before.fill-pool in (
       ap length c.before.before.before.put_record.ensures ∙ length_put_record _ _ _ _ _ ∙ ap length fill-pool.ensures ∙ length_fill _ _
-          _ ∙ live-length pre.0.pushed.live,
+          _ ∙ live_length pre.0.pushed.live,
       omega arith,
       omega
-          (arith, used-of.ensures, (live-sound pre.0.pushed.live).counted.2),
+          (arith, used-of.ensures, (live_sound pre.0.pushed.live).counted.2),
     )
 
 add-to-index-requires : tie.Need-add-to-index-requires
@@ -91,7 +91,7 @@ returns-3 c =
     let put_record = c.before.before.before.before.before.before.before.before.before.before.put_record in
     let put-counts = c.before.before.before.before.before.before.put-counts in
     let add-to-index = c.before.before.add-to-index in
-    read-array pre.0 count_of.result used-of.result
+    read_array pre.0 count_of.result used-of.result
     count_of.ensures used-of.ensures put-counts.new.0 add-to-index.new.0 add-to-index.ensures pre.1 if1.false if2.false
     fill-pool.new.0 put_record.new.0 fill-pool.ensures put_record.ensures put-counts.ensures
 

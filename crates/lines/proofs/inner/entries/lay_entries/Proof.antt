@@ -1,7 +1,7 @@
 -- By the record's kind: `$`, a singleton's entry, or an array's.
 use borrow.Author.Rules.{rules}
 use mathlib.Core.Path.{refl, sym, ◌∙◌}
-use Rattle.lines.specs.Entries.Laws.{known-few, known-kind, known-pool, line-zero, line-one, line-many}
+use Rattle.lines.specs.Entries.Laws.{known_few, known_kind, known_pool, line_zero, line_one, line_many}
 use Rattle.lines.proofs.inner.entries.lay_entries.Statement.{statement}
 use Rattle.lines.proofs.inner.entries.lay_entries.Tie as tie
 
@@ -9,19 +9,19 @@ kind-of-requires : tie.Need-kind-of-requires
 kind-of-requires c κs =
     let pre = c.before.before.requires in
     let args = c.before.before.args in
-    (pre.0.sized, known-few args.store.now args.context pre.0)
+    (pre.0.sized, known_few args.store.now args.context pre.0)
 
 first-of-requires : tie.Need-first-of-requires
 first-of-requires c κs =
     let pre = c.before.before.before.requires in
     let args = c.before.before.before.args in
-    (pre.0.sized, known-few args.store.now args.context pre.0)
+    (pre.0.sized, known_few args.store.now args.context pre.0)
 
 second-of-requires : tie.Need-second-of-requires
 second-of-requires c κs =
     let pre = c.before.before.before.before.requires in
     let args = c.before.before.before.before.args in
-    (pre.0.sized, known-few args.store.now args.context pre.0)
+    (pre.0.sized, known_few args.store.now args.context pre.0)
 
 returns : tie.Need-returns
 returns c =
@@ -29,7 +29,7 @@ returns c =
     let pre = c.before.before.before.before.before.before.before.before.before.before.requires in
     let kind-of = c.before.before.before.before.before.before.before.kind-of in
     let if1 = c.before.before.before.before.if1 in
-    rw (← line-zero args.store.now args.context pre.0 (sym kind-of.ensures ∙ if1.true)) c.before.before.lay-one.ensures
+    rw (← line_zero args.store.now args.context pre.0 (sym kind-of.ensures ∙ if1.true)) c.before.before.lay-one.ensures
 
 returns-2 : tie.Need-returns-2
 returns-2 c =
@@ -39,7 +39,7 @@ returns-2 c =
     let first_of = c.before.before.before.before.before.before.before.first_of in
     let second-of = c.before.before.before.before.before.before.second-of in
     let if2 = c.before.before.before.before.if2 in
-    rw (← line-one args.store.now args.context pre.0 (sym kind-of.ensures ∙ if2.true), ← first_of.ensures, ← second-of.ensures)
+    rw (← line_one args.store.now args.context pre.0 (sym kind-of.ensures ∙ if2.true), ← first_of.ensures, ← second-of.ensures)
     c.before.before.lay-one2.ensures
 
 lay-many-requires : tie.Need-lay-many-requires
@@ -49,8 +49,8 @@ lay-many-requires c κs =
     let kind-of = c.before.before.before.before.before.kind-of in
     let first_of = c.before.before.before.before.first_of in (
       rw (first_of.ensures, c.before.before.before.second-of.ensures)
-          (known-pool args.store.now args.context pre.0
-          (known-kind args.store.now args.context pre.0 (λ e. c.before.before.if1.false (kind-of.ensures ∙ e))
+          (known_pool args.store.now args.context pre.0
+          (known_kind args.store.now args.context pre.0 (λ e. c.before.before.if1.false (kind-of.ensures ∙ e))
           (λ e. c.before.if2.false (kind-of.ensures ∙ e)))),
       pre.1,
     )
@@ -65,8 +65,8 @@ returns-3 c =
     let if1 = c.before.before.before.before.before.if1 in
     let if2 = c.before.before.before.before.if2 in
     rw (
-      ← line-many args.store.now args.context pre.0
-          (known-kind args.store.now args.context pre.0 (λ e. if1.false (kind-of.ensures ∙ e))
+      ← line_many args.store.now args.context pre.0
+          (known_kind args.store.now args.context pre.0 (λ e. if1.false (kind-of.ensures ∙ e))
           (λ e. if2.false (kind-of.ensures ∙ e))),
       ← first_of.ensures,
       ← second-of.ensures,

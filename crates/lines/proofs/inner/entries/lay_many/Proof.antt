@@ -2,9 +2,9 @@
 use borrow.Author.Rules.{rules}
 use native.Mathlib.Omega.{arith}
 use Rattle.lines.specs.Entries.{pool_node}
-use Rattle.lines.specs.Entries.Laws.{pool-room}
+use Rattle.lines.specs.Entries.Laws.{pool_room}
 use Rattle.lines.specs.Lines.{entries_bytes}
-use Rattle.lines.specs.Lines.Laws.{number_room, more_room, end-room, headed-line}
+use Rattle.lines.specs.Lines.Laws.{number_room, more_room, end_room, headed_line}
 use Rattle.lines.proofs.inner.entries.lay_many.Statement.{statement}
 use Rattle.lines.proofs.inner.entries.lay_many.Tie as tie
 
@@ -23,7 +23,7 @@ put-entries-requires c κs =
     let put-spaced = c.before.before.before.put-spaced in (
       pre.0,
       more_room args.out.now pre.1 69 args.n (omega arith) put_byte.ensures put-spaced.ensures _
-          (omega (arith, pool-room args.store.now args.from args.n pre.0)),
+          (omega (arith, pool_room args.store.now args.from args.n pre.0)),
     )
 
 put-byte-requires-2 : tie.Need-put-byte-requires-2
@@ -35,9 +35,9 @@ put-byte-requires-2 c κs =
     let put_entries = c.before.before.before.put_entries in
     omega (
       arith,
-      end-room args.out.now pre.1 69 args.n (omega arith) put_byte.ensures put-spaced.ensures
+      end_room args.out.now pre.1 69 args.n (omega arith) put_byte.ensures put-spaced.ensures
           (entries_bytes (pool_node args.store.now args.from args.n))
-          (omega (arith, pool-room args.store.now args.from args.n pre.0)) put_entries.ensures,
+          (omega (arith, pool_room args.store.now args.from args.n pre.0)) put_entries.ensures,
     )
 
 returns : tie.Need-returns
@@ -47,9 +47,9 @@ returns c =
     let put_byte = c.before.before.before.before.before.before.before.before.before.before.before.before.before.before.put_byte in
     let put-spaced = c.before.before.before.before.before.before.before.before.before.before.put-spaced in
     let put_entries = c.before.before.before.before.before.before.put_entries in
-    headed-line args.out.now pre.1 69 args.n (omega arith) put_byte.ensures put-spaced.ensures
+    headed_line args.out.now pre.1 69 args.n (omega arith) put_byte.ensures put-spaced.ensures
     (entries_bytes (pool_node args.store.now args.from args.n))
-    (omega (arith, pool-room args.store.now args.from args.n pre.0)) put_entries.ensures c.before.before.put-byte2.ensures
+    (omega (arith, pool_room args.store.now args.from args.n pre.0)) put_entries.ensures c.before.before.put-byte2.ensures
 
 pub lay-many-spec : {M : Type 1} → statement M
 lay-many-spec =

@@ -3,8 +3,8 @@ use native.Mathlib.Omega.{arith}
 use Prim.Native.Nat.{◌+◌, ◌-◌, ◌≤◌}
 use Rattle.lines.specs.Lines.{entries_bytes}
 use Rattle.lines.specs.Entries.{entry_bytes, pool_node}
-use Rattle.lines.specs.Laid.Laws.{Rest, rest_start, rest-step, rest-done, rest-room}
-use Rattle.lines.specs.Entries.Laws.{pool-first, pool-all, pool-none}
+use Rattle.lines.specs.Laid.Laws.{Rest, rest_start, rest_step, rest_done, rest_room}
+use Rattle.lines.specs.Entries.Laws.{pool_first, pool_all, pool_none}
 use Rattle.lines.proofs.inner.entries.put_entries.Statement.{statement}
 use Rattle.lines.proofs.inner.entries.put_entries.Tie as tie
 
@@ -18,7 +18,7 @@ loop-holds : tie.Need-loop-init invariant-loop decreases-loop
 loop-holds c =
     let args = c.before.before.args in
     let pre = c.before.before.requires in
-    (omega arith, rest_start args.out.now args.at _ _ (pool-all args.store.now args.from args.n pre.0) pre.1)
+    (omega arith, rest_start args.out.now args.at _ _ (pool_all args.store.now args.from args.n pre.0) pre.1)
 
 add-pool-parent : tie.Need-overflow-add-pool-parent invariant-loop decreases-loop
 add-pool-parent c =
@@ -45,11 +45,11 @@ put-entry-requires c κs =
     let args = c.before.before.before.before.before.before.before.args in
     let pre = c.before.before.before.before.before.before.before.requires in
     let loop = c.before.before.before.before.loop in
-    let pool-parent = c.before.before.pool-parent in
-    rest-room loop.invariant.1 (entry_bytes c.before.pool-state.result pool-parent.result)
+    let pool_parent = c.before.before.pool-parent in
+    rest_room loop.invariant.1 (entry_bytes c.before.pool-state.result pool_parent.result)
     (entries_bytes (pool_node args.store.now (args.from + (loop.i + 1)) (args.n - (loop.i + 1))))
-    (pool-first args.store.now args.from args.n pre.0 loop.i c.before.pool-state.result pool-parent.result
-    c.before.before.before.loop-test.true c.before.pool-state.ensures pool-parent.ensures)
+    (pool_first args.store.now args.from args.n pre.0 loop.i c.before.pool-state.result pool_parent.result
+    c.before.before.before.loop-test.true c.before.pool-state.ensures pool_parent.ensures)
 
 add-i : tie.Need-overflow-add-i invariant-loop decreases-loop
 add-i c = omega arith
@@ -63,12 +63,12 @@ loop-again c =
     let pre = c.before.before.before.before.before.before.before.before.before.before.requires in
     let loop = c.before.before.before.before.before.before.before.loop in
     let loop-test = c.before.before.before.before.before.before.loop-test in
-    let pool-parent = c.before.before.before.before.before.pool-parent in
-    let pool-state = c.before.before.before.before.pool-state in (
+    let pool_parent = c.before.before.before.before.before.pool-parent in
+    let pool_state = c.before.before.before.before.pool-state in (
       omega arith,
-      rest-step loop.invariant.1 _
-          (pool-first args.store.now args.from args.n pre.0 loop.i pool-state.result pool-parent.result
-          loop-test.true pool-state.ensures pool-parent.ensures)
+      rest_step loop.invariant.1 _
+          (pool_first args.store.now args.from args.n pre.0 loop.i pool_state.result pool_parent.result
+          loop-test.true pool_state.ensures pool_parent.ensures)
           c.before.before.put-entry.ensures,
     )
 
@@ -79,7 +79,7 @@ returns : tie.Need-returns invariant-loop decreases-loop
 returns c =
     let args = c.before.before.before.before.args in
     let pre = c.before.before.before.before.requires in
-    rest-done c.before.loop.invariant.1 (pool-none args.store.now args.from args.n pre.0 c.before.loop.i c.loop-test.false)
+    rest_done c.before.loop.invariant.1 (pool_none args.store.now args.from args.n pre.0 c.before.loop.i c.loop-test.false)
 
 pub put-entries-spec : {M : Type 1} → statement M
 put-entries-spec =

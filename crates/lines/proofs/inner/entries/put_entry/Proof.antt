@@ -6,7 +6,7 @@ use mathlib.Core.List.{◌∷◌}
 use lib.ListN.{length, length-append}
 use Rattle.lines.specs.Decimal.{decimal}
 use Rattle.lines.specs.Lines.{spaced}
-use Rattle.lines.specs.Entries.Laws.{entry-stop, entry_more}
+use Rattle.lines.specs.Entries.Laws.{entry_stop, entry_more}
 use Rattle.lines.specs.Laid.Laws.{wrote_then, wrote_length}
 use Rattle.lines.proofs.inner.entries.put_entry.Statement.{statement}
 use Rattle.lines.proofs.inner.entries.put_entry.Tie as tie
@@ -14,7 +14,7 @@ use Rattle.lines.proofs.inner.entries.put_entry.Tie as tie
 put-byte-requires : tie.Need-put-byte-requires
 put-byte-requires c κs =
     let args = c.before.before.before.args in
-    omega (arith, ap length (entry-stop args.state args.parent c.before.if1.true), c.before.before.before.requires)
+    omega (arith, ap length (entry_stop args.state args.parent c.before.if1.true), c.before.before.before.requires)
 
 put-byte-requires-2 : tie.Need-put-byte-requires-2
 put-byte-requires-2 c κs =
@@ -22,14 +22,14 @@ put-byte-requires-2 c κs =
     let pre = c.before.before.before.before.before.before.before.requires in
     let if1 = c.before.before.before.before.before.if1 in
     let put_byte = c.before.before.before.put_byte in
-    omega (arith, ap length (entry-stop args.state args.parent if1.true), pre, put_byte.ensures.after, wrote_length put_byte.ensures)
+    omega (arith, ap length (entry_stop args.state args.parent if1.true), pre, put_byte.ensures.after, wrote_length put_byte.ensures)
 
 returns : tie.Need-returns
 returns c =
     let args = c.before.before.before.before.before.before.before.before.before.before.args in
     let if1 = c.before.before.before.before.before.before.before.before.if1 in
     let put_byte = c.before.before.before.before.before.before.put_byte in
-    rw (entry-stop args.state args.parent if1.true) (wrote_then put_byte.ensures c.before.before.put-byte2.ensures)
+    rw (entry_stop args.state args.parent if1.true) (wrote_then put_byte.ensures c.before.before.put-byte2.ensures)
 
 put-spaced-requires : tie.Need-put-spaced-requires
 put-spaced-requires c κs =

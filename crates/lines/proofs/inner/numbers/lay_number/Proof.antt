@@ -1,7 +1,7 @@
 -- The letter, the number, the line end.
 use borrow.Author.Rules.{rules}
 use native.Mathlib.Omega.{arith}
-use Rattle.lines.specs.Lines.Laws.{number_room, more_room, number-line}
+use Rattle.lines.specs.Lines.Laws.{number_room, more_room, number_line_lem}
 use Rattle.lines.proofs.inner.numbers.lay_number.Statement.{statement}
 use Rattle.lines.proofs.inner.numbers.lay_number.Tie as tie
 
@@ -26,7 +26,7 @@ returns c =
     let pre = c.before.before.before.before.before.before.before.before.before.before.before.before.before.requires in
     let put_byte = c.before.before.before.before.before.before.before.before.before.before.put_byte in
     let put-spaced = c.before.before.before.before.before.before.put-spaced in
-    number-line args.out.now pre args.letter args.n (omega arith) put_byte.ensures put-spaced.ensures
+    number_line_lem args.out.now pre args.letter args.n (omega arith) put_byte.ensures put-spaced.ensures
     c.before.before.put-byte2.ensures
 
 pub lay-number-spec : {M : Type 1} → statement M

@@ -2,7 +2,7 @@
 use borrow.Author.Rules.{rules}
 use native.Mathlib.Omega.{arith}
 use Rattle.lines.specs.Lines.{spaced}
-use Rattle.lines.specs.Lines.Laws.{spaced_few, number_room, more_room, end-room, headed-line}
+use Rattle.lines.specs.Lines.Laws.{spaced_few, number_room, more_room, end_room, headed_line}
 use Rattle.lines.proofs.inner.numbers.lay_numbers.Statement.{statement}
 use Rattle.lines.proofs.inner.numbers.lay_numbers.Tie as tie
 
@@ -24,7 +24,7 @@ put-byte-requires-2 c κs =
     let put-spaced = c.before.before.before.before.before.before.before.put-spaced in
     omega (
       arith,
-      end-room start.args.out.now start.requires start.args.letter start.args.n (omega arith) put_byte.ensures put-spaced.ensures
+      end_room start.args.out.now start.requires start.args.letter start.args.n (omega arith) put_byte.ensures put-spaced.ensures
           (spaced start.args.k) (spaced_few _ (omega arith)) c.before.before.before.put-spaced2.ensures,
     )
 
@@ -33,7 +33,7 @@ returns c =
     let start = c.before.before.before.before.before.before.before.before.before.before.before.before.before.before.before.before.before in
     let put_byte = c.before.before.before.before.before.before.before.before.before.before.before.before.before.before.put_byte in
     let put-spaced = c.before.before.before.before.before.before.before.before.before.before.put-spaced in
-    headed-line start.args.out.now start.requires start.args.letter start.args.n (omega arith) put_byte.ensures put-spaced.ensures
+    headed_line start.args.out.now start.requires start.args.letter start.args.n (omega arith) put_byte.ensures put-spaced.ensures
     (spaced start.args.k) (spaced_few _ (omega arith)) c.before.before.before.before.before.before.put-spaced2.ensures c.before.before.put-byte2.ensures
 
 pub lay-numbers-spec : {M : Type 1} → statement M

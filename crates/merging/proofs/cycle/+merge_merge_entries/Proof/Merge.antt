@@ -6,14 +6,14 @@ use Prim.Native.Nat.{ℕ}
 use lib.ListN.{length}
 use borrow.Author.Rules.{rules}
 use borrow.Author.Tests.{not_true, not_false}
-use Rattle.interning.specs.Live.{live-length}
+use Rattle.interning.specs.Live.{live_length}
 use Rattle.interning.specs.Interned.{More}
 use Rattle.interning.specs.declared.single.Numbered.TheVariants.{Number, Refused}
 use Rattle.work.specs.Counted.{counted}
 use Rattle.cache.specs.Cache.{Counts}
 use Rattle.cache.specs.declared.lookup.Recall.TheVariants.{As, Unknown}
 use Rattle.merging.specs.Standing.{Reached, Swallows, walked, state_of, ended_lengths}
-use Rattle.merging.specs.Beginning.{asked, equal-sides, hit, too_much_lem, counted-apart, swallowed, merged-few, remembered, refused-inside}
+use Rattle.merging.specs.Beginning.{asked, equal_sides, hit, too_much_lem, counted_apart, swallowed, merged_few, remembered, refused_inside}
 use Rattle.merging.proofs.cycle.+merge_merge_entries.Lts-merge as merge-lts
 use Rattle.merging.proofs.cycle.+merge_merge_entries.Proof.Measures.{Merge}
 
@@ -23,7 +23,7 @@ merge_returns t c =
     let p1 = c.before.before.before.before.before in
     let pre = p1.requires in
     let args = p1.args in
-    (equal-sides pre.1 args.root-is-wildcard if1.true, omega arith)
+    (equal_sides pre.1 args.root-is-wildcard if1.true, omega arith)
 
 pub merge_cached_requires : Merge merge-lts.Need-cached-requires
 merge_cached_requires t c κs =
@@ -92,7 +92,7 @@ merge_remember_requires t c κs =
     let p3 = p2.before.before.before.before.before.before.before in
     let pre = p3.requires in
     let args = p3.args in
-    let apart = counted-apart pre.1 if1.false args.root-is-wildcard cached.result cached.ensures enum_told.given.1
+    let apart = counted_apart pre.1 if1.false args.root-is-wildcard cached.result cached.ensures enum_told.given.1
     count-merge.new.0 (is_counted t at-if2) in
     (asked apart.sides, omega arith)
 
@@ -109,7 +109,7 @@ merge_same_length_3 t c =
     let p3 = p2.before.before.before.before.before.before.before in
     let pre = p3.requires in
     let args = p3.args in
-    let apart = counted-apart pre.1 if1.false args.root-is-wildcard cached.result cached.ensures enum_told.given.1
+    let apart = counted_apart pre.1 if1.false args.root-is-wildcard cached.result cached.ensures enum_told.given.1
     count-merge.new.0 (is_counted t at-if2) in
     remember.ensures.sized ∙ apart.sides.live.index.sized ∙ sym pre.1.live.index.sized
 
@@ -147,7 +147,7 @@ merge_merge_entries_requires t c κs =
     let pre = p3.requires in
     let args = p3.args in (
       omega (arith, pre.0),
-      counted-apart pre.1 if1.false args.root-is-wildcard cached.result cached.ensures enum_told.given.1
+      counted_apart pre.1 if1.false args.root-is-wildcard cached.result cached.ensures enum_told.given.1
           count-merge.new.0 (is_counted t at-if2),
     )
 
@@ -165,11 +165,11 @@ merge_same_length_4 t c =
     let p4 = p3.before.before.before.before.before.before.before in
     let pre = p4.requires in
     let args = p4.args in
-    let apart = counted-apart pre.1 if1.false args.root-is-wildcard cached.result cached.ensures enum_told.given.1
+    let apart = counted_apart pre.1 if1.false args.root-is-wildcard cached.result cached.ensures enum_told.given.1
     count-merge.new.0 (is_counted t at-if2) in
     omega (
       arith,
-      live-length pre.1.live,
+      live_length pre.1.live,
       (ended_lengths apart.sides (walked args.root-is-wildcard (state_of args.store.now count-merge.new.0) args.left.0 args.right.0)
           merge-entries.result merge-entries.new.0 merge-entries.new.1.0 merge-entries.ensures).0,
     )
@@ -188,7 +188,7 @@ merge_same_length_5 t c =
     let p4 = p3.before.before.before.before.before.before.before in
     let pre = p4.requires in
     let args = p4.args in
-    let apart = counted-apart pre.1 if1.false args.root-is-wildcard cached.result cached.ensures enum_told.given.1
+    let apart = counted_apart pre.1 if1.false args.root-is-wildcard cached.result cached.ensures enum_told.given.1
     count-merge.new.0 (is_counted t at-if2) in
     omega (
       arith,
@@ -215,7 +215,7 @@ merge_returns_5 t c =
     let p5 = p4.before.before.before.before.before.before.before in
     let pre = p5.requires in
     let args = p5.args in
-    let below = refused-inside pre.1 if1.false args.root-is-wildcard cached.result cached.ensures enum_told.given.1
+    let below = refused_inside pre.1 if1.false args.root-is-wildcard cached.result cached.ensures enum_told.given.1
     count-merge.new.0 (is_counted t at-if2) (rw if3.false at swallows.ensures) enum-told2.given.0.0
     merge-entries.new.0 merge-entries.new.1.0 (rw enum-told2.given.1 at merge-entries.ensures) in
     rw enum-told2.given.1 below
@@ -254,7 +254,7 @@ merge_remember_requires_2 t c κs =
     let p5 = p4.before.before.before.before.before.before.before in
     let pre = p5.requires in
     let args = p5.args in
-    let few = merged-few pre.1 if1.false args.root-is-wildcard cached.result cached.ensures enum_told.given.1
+    let few = merged_few pre.1 if1.false args.root-is-wildcard cached.result cached.ensures enum_told.given.1
     count-merge.new.0 (is_counted t at-if2) (rw if3.false at swallows.ensures) merged.given.0.0.0
     merge-entries.new.0 merge-entries.new.1.0 (is_merged t at-merged).0 in
     let sides = asked pre.1 in (
@@ -268,7 +268,7 @@ merge_same_length_6 t c =
     let p1 = at-merged.before.before.before.before.before.before.before.before.before.before.before.before in
     let p2 = p1.before.before.before.before.before.before.before.before.before.before.before.before in
     let pre = p2.before.requires in
-    omega (arith, live-length pre.1.live, live-length (is_merged t at-merged).0.live)
+    omega (arith, live_length pre.1.live, live_length (is_merged t at-merged).0.live)
 
 pub merge_same_length_7 : Merge merge-lts.Need-same-length-7
 merge_same_length_7 t c =

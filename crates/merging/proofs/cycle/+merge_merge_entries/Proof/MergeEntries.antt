@@ -6,7 +6,7 @@ use lib.ListN.{length}
 use Rattle.arena.specs.Store.{node_at}
 use Rattle.arena.specs.Kinds.{size}
 use Rattle.layout.specs.Decode.{store_of}
-use Rattle.interning.specs.Live.{live-length}
+use Rattle.interning.specs.Live.{live_length}
 use Rattle.interning.specs.Interned.{More, answered}
 use Rattle.interning.specs.declared.single.Numbered.TheVariants.{Number, Refused}
 use Rattle.work.specs.Counted.{counted, refused}
@@ -14,8 +14,8 @@ use Rattle.words.specs.Refusals.{number}
 use Rattle.entries.specs.Rest.{live_known}
 use Rattle.merging.specs.Standing.{Reached, Stuck, Ended, state_of, walked, ended_lengths}
 use Rattle.merging.specs.Walking.{exchanged}
-use Rattle.merging.specs.Turns.{Heads, heads_exchanged, sides_exchanged, go-start, left-known, left_is, right_there, rest-left, left_ended, few-made, fitting}
-use Rattle.merging.specs.Turns.{slot, take-lower, parents-fall, inner, take-equal, inner-refused, walked_even}
+use Rattle.merging.specs.Turns.{Heads, heads_exchanged, sides_exchanged, go_start, left_known, left_is, right_there, rest_left, left_ended, few_made, fitting}
+use Rattle.merging.specs.Turns.{slot, take_lower, parents_fall, inner, take_equal, inner_refused, walked_even}
 use Rattle.merging.proofs.cycle.+merge_merge_entries.Lts-merge_entries as merge-entries-lts
 use Rattle.merging.proofs.cycle.+merge_merge_entries.Proof.Measures.{MergeEntries, Inv-loop, μ_loop}
 
@@ -41,7 +41,7 @@ entries_loop_holds t c =
     let p1 = c.before.before.before.before.before.before in
     let pre = p1.requires in
     let args = p1.args in
-    (go-start pre.1 args.root-is-wildcard, omega arith, omega arith, entry-count.ensures, entry-count2.ensures, omega arith)
+    (go_start pre.1 args.root-is-wildcard, omega arith, omega arith, entry-count.ensures, entry-count2.ensures, omega arith)
 
 pub entries_intern_with_rest_requires : MergeEntries merge-entries-lts.Need-intern-with-rest-requires
 entries_intern_with_rest_requires t c κs =
@@ -49,7 +49,7 @@ entries_intern_with_rest_requires t c κs =
     let p1 = c.before.before.before.before in
     let loop = p1.loop in
     let pre = p1.before.before.before.before.before.before.before.requires in (
-      rest-left pre.1 loop.invariant.0 (omega (arith, loop.invariant.1)) (omega (arith, loop.invariant.2, if1.true)) (omega (arith, loop.invariant.2)),
+      rest_left pre.1 loop.invariant.0 (omega (arith, loop.invariant.1)) (omega (arith, loop.invariant.2, if1.true)) (omega (arith, loop.invariant.2)),
       right_there pre.1 loop.invariant.0,
     )
 
@@ -57,7 +57,7 @@ pub entries_answer_requires : MergeEntries merge-entries-lts.Need-answer-require
 entries_answer_requires t c κs =
     let at-loop = c.before.before.before.before.before.before.before.before.before in
     let loop = at-loop.loop in
-    few-made at-loop.before.before.before.before.before.before.before.requires.1 loop.invariant.0 loop.made loop.invariant.5
+    few_made at-loop.before.before.before.before.before.before.before.requires.1 loop.invariant.0 loop.made loop.invariant.5
 
 pub entries_same_length : MergeEntries merge-entries-lts.Need-same-length
 entries_same_length t c =
@@ -69,7 +69,7 @@ entries_same_length t c =
     let pre = p2.before.before.before.before.before.before.before.before.before.requires in
     let all = left_ended pre.1 loop.invariant.0 (omega (arith, loop.invariant.1)) (omega (arith, loop.invariant.2, if1.true)) (omega (arith, loop.invariant.2)) loop.made loop.invariant.5
     intern-with-rest.result intern-with-rest.new.0 intern-with-rest.new.1.0 intern-with-rest.ensures in
-    omega (arith, live-length pre.1.sides.live, (ended_lengths pre.1.sides _ (answered intern-with-rest.result loop.made) _ _ all).0)
+    omega (arith, live_length pre.1.sides.live, (ended_lengths pre.1.sides _ (answered intern-with-rest.result loop.made) _ _ all).0)
 
 pub entries_same_length_2 : MergeEntries merge-entries-lts.Need-same-length-2
 entries_same_length_2 t c =
@@ -102,7 +102,7 @@ entries_entry_requires t c κs =
     let p1 = c.before.before.before in
     let loop = p1.loop in
     let pre = p1.before.before.before.before.before.before.before.requires in
-    (left-known pre.1 loop.invariant.0, rw (left_is pre.1 loop.invariant.0) (omega (arith, loop.invariant.3, loop-test.true)))
+    (left_known pre.1 loop.invariant.0, rw (left_is pre.1 loop.invariant.0) (omega (arith, loop.invariant.3, loop-test.true)))
 
 pub entries_entry_requires_2 : MergeEntries merge-entries-lts.Need-entry-requires-2
 entries_entry_requires_2 t c κs =
@@ -110,7 +110,7 @@ entries_entry_requires_2 t c κs =
     let if1 = p1.if1 in
     let loop = p1.before.before.loop in
     let pre = p1.before.before.before.before.before.before.before.before.before.requires in (
-      left-known (sides_exchanged pre.1) (exchanged loop.invariant.0),
+      left_known (sides_exchanged pre.1) (exchanged loop.invariant.0),
       rw (left_is (sides_exchanged pre.1) (exchanged loop.invariant.0)) (omega (arith, loop.invariant.4, if1.false)),
     )
 
@@ -183,7 +183,7 @@ entries_loop_again t c =
     let loop-test = p2.loop-test in
     let loop = p2.before.loop in
     let pre = p2.before.before.before.before.before.before.before.before.requires in (
-      take-lower pre.1 loop.invariant.0 (heads t at-entry2) if2.true put-entry.new.0 put-entry.ensures,
+      take_lower pre.1 loop.invariant.0 (heads t at-entry2) if2.true put-entry.new.0 put-entry.ensures,
       omega (arith, loop-test.true),
       loop.invariant.2,
       loop.invariant.3,
@@ -240,7 +240,7 @@ entries_loop_again_2 t c =
     let if1 = p2.if1 in
     let loop = p2.before.before.loop in
     let pre = p2.before.before.before.before.before.before.before.before.before.requires in (
-      exchanged (take-lower (sides_exchanged pre.1) (exchanged loop.invariant.0) (heads_exchanged (heads t at-entry2)) if3.true
+      exchanged (take_lower (sides_exchanged pre.1) (exchanged loop.invariant.0) (heads_exchanged (heads t at-entry2)) if3.true
           put-entry2.new.0 put-entry2.ensures),
       loop.invariant.1,
       omega (arith, if1.false),
@@ -263,7 +263,7 @@ entries_merge_requires t c κs =
     let p1 = at-entry2.before.before.before.before.before.before in
     let loop = p1.loop in
     let pre = p1.before.before.before.before.before.before.before.requires in (
-      omega (arith, pre.0, parents-fall pre.1 loop.invariant.0 (heads t at-entry2)),
+      omega (arith, pre.0, parents_fall pre.1 loop.invariant.0 (heads t at-entry2)),
       inner pre.1 loop.invariant.0 (heads t at-entry2),
     )
 
@@ -294,7 +294,7 @@ is_refused t c =
     let p2 = at-entry2.before.before.before.before.before.before in
     let loop = p2.loop in
     let pre = p2.before.before.before.before.before.before.before.requires in
-    inner-refused pre.1 loop.invariant.0 (heads t at-entry2) (states_equal t at-if3) enum_told.given.0.0 merge.new.0 merge.new.1.0
+    inner_refused pre.1 loop.invariant.0 (heads t at-entry2) (states_equal t at-if3) enum_told.given.0.0 merge.new.0 merge.new.1.0
     (rw enum_told.given.1 at merge.ensures)
 
 pub entries_same_length_3 : MergeEntries merge-entries-lts.Need-same-length-3
@@ -304,7 +304,7 @@ entries_same_length_3 t c =
     let p1 = c.before.before.before.before.before.before.before.before.before.before.before.before in
     let p2 = p1.before.before.before.before.before.before.before.before.before.before.before.before in
     let pre = p2.before.before.before.before.requires in
-    omega (arith, live-length pre.1.sides.live, (ended_lengths pre.1.sides _ (Refused enum_told.given.0.0) _ _ (is_refused t at-enum-told)).0)
+    omega (arith, live_length pre.1.sides.live, (ended_lengths pre.1.sides _ (Refused enum_told.given.0.0) _ _ (is_refused t at-enum-told)).0)
 
 pub entries_same_length_4 : MergeEntries merge-entries-lts.Need-same-length-4
 entries_same_length_4 t c =
@@ -414,7 +414,7 @@ entries_loop_again_3 t c =
     let loop-test = p2.before.loop-test in
     let loop = p2.before.before.loop in
     let pre = p2.before.before.before.before.before.before.before.before.before.requires in (
-      take-equal pre.1 loop.invariant.0 (heads t at-entry2) (states_equal t at-if3) merged.given.0.0.0 merge.new.0 merge.new.1.0
+      take_equal pre.1 loop.invariant.0 (heads t at-entry2) (states_equal t at-if3) merged.given.0.0.0 merge.new.0 merge.new.1.0
           (is_merged t at-merged).0 put-entry3.new.0 put-entry3.ensures,
       omega (arith, loop-test.true),
       omega (arith, if1.false),
@@ -430,7 +430,7 @@ entries_intern_with_rest_requires_2 t c κs =
     let loop = p1.loop in
     let pre = p1.before.before.before.before.before.before.before.requires in
     let turned = sides_exchanged pre.1 in (
-      rest-left turned (exchanged loop.invariant.0) (omega (arith, loop.invariant.2)) (omega (arith, loop.invariant.1, loop-test.false)) (omega (arith, loop.invariant.1)),
+      rest_left turned (exchanged loop.invariant.0) (omega (arith, loop.invariant.2)) (omega (arith, loop.invariant.1, loop-test.false)) (omega (arith, loop.invariant.1)),
       right_there turned (exchanged loop.invariant.0),
     )
 
@@ -458,7 +458,7 @@ pub entries_answer_requires_2 : MergeEntries merge-entries-lts.Need-answer-requi
 entries_answer_requires_2 t c κs =
     let at-loop = c.before.before.before.before.before.before.before.before in
     let loop = at-loop.loop in
-    few-made at-loop.before.before.before.before.before.before.before.requires.1 loop.invariant.0 loop.made loop.invariant.5
+    few_made at-loop.before.before.before.before.before.before.before.requires.1 loop.invariant.0 loop.made loop.invariant.5
 
 pub entries_same_length_5 : MergeEntries merge-entries-lts.Need-same-length-5
 entries_same_length_5 t c =
@@ -467,7 +467,7 @@ entries_same_length_5 t c =
     let p1 = at-intern-with-rest2.before.before.before.before in
     let loop = p1.loop in
     let pre = p1.before.before.before.before.before.before.before.requires in
-    omega (arith, live-length pre.1.sides.live, (ended_lengths pre.1.sides _ (answered intern-with-rest2.result loop.made) _ _ (all_right t at-intern-with-rest2)).0)
+    omega (arith, live_length pre.1.sides.live, (ended_lengths pre.1.sides _ (answered intern-with-rest2.result loop.made) _ _ (all_right t at-intern-with-rest2)).0)
 
 pub entries_same_length_6 : MergeEntries merge-entries-lts.Need-same-length-6
 entries_same_length_6 t c =

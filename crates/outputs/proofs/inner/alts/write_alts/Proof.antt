@@ -4,7 +4,7 @@ use mathlib.Core.Path.{sym, ap, ◌∙◌}
 use Prim.Native.Nat.{ℕ, ◌-◌}
 use native.Mathlib.Omega.{arith}
 use lib.ListN.{replicate, length-set}
-use Rattle.outputs.specs.Alts.{Writing, writing_none, writing-asks, writing-next, writing_end, writing_fits, leader_within}
+use Rattle.outputs.specs.Alts.{Writing, writing_none, writing_asks, writing_next, writing_end, writing_fits, leader_within}
 use Rattle.outputs.proofs.inner.alts.write_alts.Statement.{statement}
 use Rattle.outputs.proofs.inner.alts.write_alts.Tie as tie
 
@@ -80,7 +80,7 @@ add-if-requires c κs =
     let config-count = c.before.before.before.before.before.before.config-count in
     let loop = c.before.before.before.before.before.loop in
     let loop-test = c.before.before.before.before.loop-test in
-    writing-asks loop.invariant (omega (arith, loop-test.true, config-count.ensures)) c.alternative-of.result c.alternative-of.ensures
+    writing_asks loop.invariant (omega (arith, loop-test.true, config-count.ensures)) c.alternative-of.result c.alternative-of.ensures
 
 add-place : tie.Need-overflow-add-place invariant-loop decreases-loop
 add-place c =
@@ -102,7 +102,7 @@ loop-again c =
     let loop = c.before.before.before.before.before.before.before.before.loop in
     let loop-test = c.before.before.before.before.before.before.before.loop-test in
     let pre = c.before.before.before.before.before.before.before.before.before.before.before.before.before.before.before.before.before.requires in
-    writing-next loop.invariant (omega (arith, loop-test.true, config-count.ensures)) alternative-of.result alternative-of.ensures _
+    writing_next loop.invariant (omega (arith, loop-test.true, config-count.ensures)) alternative-of.result alternative-of.ensures _
     (pre.0.tells loop.place (omega (arith, loop-test.true, config-count.ensures))) add-if.result add-if.new.0 add-if.ensures
 
 cast-output : tie.Need-overflow-cast-output invariant-loop decreases-loop

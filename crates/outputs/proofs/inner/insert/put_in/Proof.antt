@@ -3,7 +3,7 @@ use mathlib.Core.Path.{◌≡◌, refl, sym, ap, ◌∙◌}
 use Prim.Native.Nat.{ℕ, ◌≤◌}
 use native.Mathlib.Omega.{arith}
 use lib.ListN.{length, length-set, set}
-use Rattle.outputs.specs.Insert.{gap, gap-turn}
+use Rattle.outputs.specs.Insert.{gap, gap_turn}
 use Rattle.outputs.proofs.inner.insert.put_in.Statement.{statement}
 use Rattle.outputs.proofs.inner.insert.put_in.Tie as tie
 
@@ -55,7 +55,7 @@ loop-again : tie.Need-loop-preserved invariant-loop decreases-loop
 loop-again c =
     let args = c.before.before.before.args in
     let loop = c.before.before.loop in
-    (omega arith, simp length-set loop.invariant.1, loop.invariant.2 ∙ gap-turn loop.words args.at loop.left 0 c.before.loop-test.true)
+    (omega arith, simp length-set loop.invariant.1, loop.invariant.2 ∙ gap_turn loop.words args.at loop.left 0 c.before.loop-test.true)
 
 mul-words-3 : tie.Need-overflow-mul-words-3 invariant-loop decreases-loop
 mul-words-3 c = omega (arith, c.before.before.requires)

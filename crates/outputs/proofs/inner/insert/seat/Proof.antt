@@ -2,7 +2,7 @@
 use mathlib.Core.Path.{◌≡◌, refl, sym, ap, ◌∙◌}
 use Prim.Native.Nat.{◌≤◌}
 use native.Mathlib.Omega.{arith}
-use Rattle.outputs.specs.Insert.{seat_of, seat-stop, seat-turn}
+use Rattle.outputs.specs.Insert.{seat_of, seat_stop, seat_turn}
 use Rattle.outputs.proofs.inner.insert.seat.Statement.{statement}
 use Rattle.outputs.proofs.inner.insert.seat.Tie as tie
 
@@ -34,7 +34,7 @@ returns c =
     let args = c.before.before.before.before.args in
     let loop = c.before.before.before.loop in
     let loop-test = c.before.before.loop-test in
-    sym (loop.invariant.1 ∙ seat-stop args.words.now args.from loop.left args.alternative loop-test.true c.if1.true)
+    sym (loop.invariant.1 ∙ seat_stop args.words.now args.from loop.left args.alternative loop-test.true c.if1.true)
 
 sub-left : tie.Need-overflow-sub-left invariant-loop decreases-loop
 sub-left c = omega arith
@@ -47,7 +47,7 @@ loop-again c =
     let args = c.before.before.before.before.args in
     let loop = c.before.before.before.loop in
     let loop-test = c.before.before.loop-test in
-    (omega arith, loop.invariant.1 ∙ seat-turn args.words.now args.from loop.left args.alternative loop-test.true c.if1.false)
+    (omega arith, loop.invariant.1 ∙ seat_turn args.words.now args.from loop.left args.alternative loop-test.true c.if1.false)
 
 returns-2 : tie.Need-returns-2 invariant-loop decreases-loop
 unfolding seat_of

@@ -5,7 +5,7 @@ use Prim.Native.Nat.{◌+◌}
 use native.Mathlib.Omega.{arith}
 use lib.ListN.{length-set}
 use Rattle.sets.specs.Layout.{config_at, field}
-use Rattle.outputs.specs.Written.{place-few, listing-length, ending-old, room, roomy, ending-new, members-length}
+use Rattle.outputs.specs.Written.{place_few, listing_length, ending_old, room, roomy, ending_new, members_length}
 use Rattle.outputs.proofs.inner.subsets.write_group.Statement.{statement}
 use Rattle.outputs.proofs.inner.subsets.write_group.Tie as tie
 
@@ -17,7 +17,7 @@ cast-if1 c =
 returns : tie.Need-returns
 returns c =
     let pre = c.before.before.before.before.before.requires in
-    ending-old pre c.if1.true
+    ending_old pre c.if1.true
 
 mul-output-2 : tie.Need-overflow-mul-output-2
 mul-output-2 c =
@@ -27,7 +27,7 @@ mul-output-2 c =
 slice-write-output : tie.Need-slice-write-output
 slice-write-output c =
     let pre = c.before.before.before.before.before.before.requires in
-    omega (arith, room pre c.before.if1.false, listing-length pre)
+    omega (arith, room pre c.before.if1.false, listing_length pre)
 
 add-output-3 : tie.Need-overflow-add-output-3
 add-output-3 c =
@@ -45,7 +45,7 @@ slice-write-output-2 : tie.Need-slice-write-output-2
 slice-write-output-2 c =
     let if1 = c.before.before.if1 in
     let pre = c.before.before.before.before.before.before.before.requires in
-    simp length-set (omega (arith, room pre if1.false, listing-length pre))
+    simp length-set (omega (arith, room pre if1.false, listing_length pre))
 
 add-write-members : tie.Need-overflow-add-write-members
 add-write-members c =
@@ -84,7 +84,7 @@ slice-write-output-3 c =
     let if1 = c.before.before.before.before.before.before.if1 in
     let pre = c.before.before.before.before.before.before.before.before.before.before.before.requires in
     let write-members = c.before.before.write-members in
-    omega (arith, room pre if1.false, members-length pre if1.false _ _ refl refl write-members.new.1.1.0 write-members.ensures.1)
+    omega (arith, room pre if1.false, members_length pre if1.false _ _ refl refl write-members.new.1.1.0 write-members.ensures.1)
 
 add-result : tie.Need-overflow-add-result
 add-result c =
@@ -104,7 +104,7 @@ same_length c =
     let if1 = c.before.before.before.before.before.before.if1 in
     let pre = c.before.before.before.before.before.before.before.before.before.before.before.requires in
     let write-members = c.before.before.write-members in
-    simp length-set (members-length pre if1.false _ _ refl refl write-members.new.1.1.0 write-members.ensures.1 ∙ sym (listing-length pre))
+    simp length-set (members_length pre if1.false _ _ refl refl write-members.new.1.1.0 write-members.ensures.1 ∙ sym (listing_length pre))
 
 returns-2 : tie.Need-returns-2
 unfolding config_at field
@@ -112,7 +112,7 @@ returns-2 c =
     let if1 = c.before.before.before.before.before.before.if1 in
     let pre = c.before.before.before.before.before.before.before.before.before.before.before.requires in
     let write-members = c.before.before.write-members in
-    ending-new pre if1.false _ _ refl refl write-members.result write-members.new.1.1.0 write-members.ensures
+    ending_new pre if1.false _ _ refl refl write-members.result write-members.new.1.1.0 write-members.ensures
 
 pub write-group-spec : {M : Type 1} → statement M
 write-group-spec =

@@ -4,7 +4,7 @@ use mathlib.Core.Path.{sym, ap, ◌∙◌}
 use Prim.Native.Nat.{ℕ, ◌-◌}
 use native.Mathlib.Omega.{arith}
 use lib.ListN.{length, replicate, length-set, length-replicate}
-use Rattle.outputs.specs.Written.{Filling, filling_none, filling-asks, filling-next, filling-length, filling-end, groups_few}
+use Rattle.outputs.specs.Written.{Filling, filling_none, filling_asks, filling_next, filling_length, filling_end, groups_few}
 use Rattle.outputs.proofs.inner.subsets.write_groups.Statement.{statement}
 use Rattle.outputs.proofs.inner.subsets.write_groups.Tie as tie
 
@@ -42,7 +42,7 @@ write-group-requires : tie.Need-write-group-requires invariant-loop decreases-lo
 write-group-requires c κs =
     let config-count = c.before.before.before.config-count in
     let loop = c.before.before.loop in
-    filling-asks loop.invariant (omega (arith, c.before.loop-test.true, config-count.ensures))
+    filling_asks loop.invariant (omega (arith, c.before.loop-test.true, config-count.ensures))
 
 add-place : tie.Need-overflow-add-place invariant-loop decreases-loop
 add-place c =
@@ -62,17 +62,17 @@ loop-again c =
     let loop = c.before.before.before.before.before.loop in
     let loop-test = c.before.before.before.before.loop-test in
     let write-group = c.before.before.write-group in
-    filling-next loop.invariant (omega (arith, loop-test.true, config-count.ensures)) write-group.result write-group.new.1.1.0 write-group.ensures
+    filling_next loop.invariant (omega (arith, loop-test.true, config-count.ensures)) write-group.result write-group.new.1.1.0 write-group.ensures
 
 same_length : tie.Need-same-length invariant-loop decreases-loop
 same_length c =
     let pre = c.before.before.before.before.before.before.before.before.before.before.requires in
-    filling-length c.before.loop.invariant ∙ sym pre.1
+    filling_length c.before.loop.invariant ∙ sym pre.1
 
 returns : tie.Need-returns invariant-loop decreases-loop
 returns c =
     let config-count = c.before.before.config-count in
-    filling-end c.before.loop.invariant (omega (arith, c.loop-test.false, config-count.ensures))
+    filling_end c.before.loop.invariant (omega (arith, c.loop-test.false, config-count.ensures))
 
 pub write-groups-spec : {M : Type 1} → statement M
 write-groups-spec =

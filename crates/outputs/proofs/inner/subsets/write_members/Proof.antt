@@ -3,7 +3,7 @@ use mathlib.Core.Path.{◌≡◌, sym, ap, ◌∙◌}
 use Prim.Native.Nat.{◌+◌, ◌-◌}
 use native.Mathlib.Omega.{arith}
 use Rattle.sets.specs.Layout.{config_count}
-use Rattle.outputs.specs.Members.{Collecting, left_at, collect-begin, collect-end, here, collect-asks, collect-next, collect-length}
+use Rattle.outputs.specs.Members.{Collecting, left_at, collect_begin, collect_end, here, collect_asks, collect_next, collect_length}
 use Rattle.outputs.proofs.inner.subsets.write_members.Statement.{statement}
 use Rattle.outputs.proofs.inner.subsets.write_members.Tie as tie
 
@@ -21,7 +21,7 @@ add-next c =
 loop-holds : tie.Need-loop-init invariant-loop decreases-loop
 loop-holds c =
     let pre = c.before.before.before.requires in
-    collect-begin pre
+    collect_begin pre
 
 sub-member : tie.Need-overflow-sub-member invariant-loop decreases-loop
 sub-member c = omega arith
@@ -37,7 +37,7 @@ insert-alt-requires c κs =
     let loop = c.before.before.before.loop in
     let loop-test = c.before.before.loop-test in
     let pre = c.before.before.before.before.before.before.before.requires in
-    collect-asks pre loop.invariant loop-test.true c.alternative-of.result c.alternative-of.ensures
+    collect_asks pre loop.invariant loop-test.true c.alternative-of.result c.alternative-of.ensures
 
 add-next-2 : tie.Need-overflow-add-next-2 invariant-loop decreases-loop
 add-next-2 c =
@@ -72,7 +72,7 @@ loop-less c =
     let loop = c.before.before.before.before.before.before.before.loop in
     let loop-test = c.before.before.before.before.before.before.loop-test in
     let pre = c.before.before.before.before.before.before.before.before.before.before.before.requires in
-    (collect-next pre loop.invariant loop-test.true alternative-of.result alternative-of.ensures insert-alt.result insert-alt.new.0 insert-alt.ensures).1
+    (collect_next pre loop.invariant loop-test.true alternative-of.result alternative-of.ensures insert-alt.result insert-alt.new.0 insert-alt.ensures).1
 
 loop-again : tie.Need-loop-preserved invariant-loop decreases-loop
 loop-again c =
@@ -81,18 +81,18 @@ loop-again c =
     let loop = c.before.before.before.before.before.before.before.loop in
     let loop-test = c.before.before.before.before.before.before.loop-test in
     let pre = c.before.before.before.before.before.before.before.before.before.before.before.requires in
-    (collect-next pre loop.invariant loop-test.true alternative-of.result alternative-of.ensures insert-alt.result insert-alt.new.0 insert-alt.ensures).0
+    (collect_next pre loop.invariant loop-test.true alternative-of.result alternative-of.ensures insert-alt.result insert-alt.new.0 insert-alt.ensures).0
 
 same_length : tie.Need-same-length invariant-loop decreases-loop
 same_length c =
     let pre = c.before.before.before.before.before.requires in
-    collect-length pre c.before.loop.invariant c.loop-test.false
+    collect_length pre c.before.loop.invariant c.loop-test.false
 
 returns : tie.Need-returns invariant-loop decreases-loop
 returns c =
     let loop = c.before.loop in
     let pre = c.before.before.before.before.before.requires in
-    collect-end pre loop.next loop.count loop.output loop.invariant c.loop-test.false
+    collect_end pre loop.next loop.count loop.output loop.invariant c.loop-test.false
 
 pub write-members-spec : {M : Type 1} → statement M
 write-members-spec =

@@ -1,6 +1,6 @@
 -- `W clash`, state, context, alternatives, the line end.
 use borrow.Author.Rules.{rules}
-use Rattle.reasonreplies.specs.Because.{clash-line}
+use Rattle.reasonreplies.specs.Because.{clash_line}
 use Rattle.reasonreplies.proofs.inner.why.lay_clash.Statement.{statement}
 use Rattle.reasonreplies.proofs.inner.why.lay_clash.Tie as tie
 
@@ -15,7 +15,7 @@ returns c =
     let put-numbers = c.before.before.before.before.before.before.put-numbers in
     let put_byte = c.before.before.put_byte in
     rw held_to.ensures.2 at
-    (clash-line args.out.now args.state args.context _ put-bytes.ensures put-number.ensures put-number2.ensures put-numbers.ensures
+    (clash_line args.out.now args.state args.context _ put-bytes.ensures put-number.ensures put-number2.ensures put-numbers.ensures
     put_byte.ensures)
 
 pub lay-clash-spec : {M : Type 1} → statement M

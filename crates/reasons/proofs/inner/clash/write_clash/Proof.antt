@@ -3,7 +3,7 @@ use borrow.Author.Rules.{rules}
 use native.Mathlib.Omega.{arith}
 use mathlib.Core.Path.{sym, ap, ◌∙◌}
 use lib.ListN.{length, length-set}
-use Rattle.reasons.specs.Clash.{roomy, clash-written, clash-fits}
+use Rattle.reasons.specs.Clash.{roomy, clash_written, clash_fits}
 use Rattle.reasons.proofs.inner.clash.write_clash.Statement.{statement}
 use Rattle.reasons.proofs.inner.clash.write_clash.Tie as tie
 
@@ -18,14 +18,14 @@ cast-output c =
     let write-members = c.before.before.write-members in
     let lead-all = c.before.before.before.before.before.before.before.lead-all in
     let pre = c.before.before.before.before.before.before.before.before.before.before.before.before.requires in
-    omega (arith, (clash-fits _ _ _ lead-all.ensures.0 pre.2 pre.3 _ pre.1 _ _ write-members.ensures).0)
+    omega (arith, (clash_fits _ _ _ lead-all.ensures.0 pre.2 pre.3 _ pre.1 _ _ write-members.ensures).0)
 
 slice-write-output : tie.Need-slice-write-output
 slice-write-output c =
     let write-members = c.before.before.write-members in
     let lead-all = c.before.before.before.before.before.before.before.lead-all in
     let pre = c.before.before.before.before.before.before.before.before.before.before.before.before.requires in
-    omega (arith, (clash-fits _ _ _ lead-all.ensures.0 pre.2 pre.3 _ pre.1 _ _ write-members.ensures).1)
+    omega (arith, (clash_fits _ _ _ lead-all.ensures.0 pre.2 pre.3 _ pre.1 _ _ write-members.ensures).1)
 
 same_length : tie.Need-same-length
 same_length c =
@@ -41,7 +41,7 @@ returns c =
     let write-members = c.before.before.write-members in
     let lead-all = c.before.before.before.before.before.before.before.lead-all in
     let pre = c.before.before.before.before.before.before.before.before.before.before.before.before.requires in
-    (clash-written _ _ _ lead-all.ensures.0 pre.2 pre.3 _ pre.1 _ _ write-members.ensures, lead-all.ensures.0.words)
+    (clash_written _ _ _ lead-all.ensures.0 pre.2 pre.3 _ pre.1 _ _ write-members.ensures, lead-all.ensures.0.words)
 
 pub write-clash-spec : {M : Type 1} → statement M
 write-clash-spec = tie.close (tie.spec (λ c κs. search rules) write-members-requires cast-output slice-write-output same_length same-length-2 returns)

@@ -2,8 +2,8 @@
 use borrow.Author.Rules.{rules}
 use mathlib.Core.Path.{◌≡◌, sym, ◌∙◌}
 use Rattle.setcheck.specs.declared.inner.keys.KeyPlace.TheVariants.{At, New}
-use Rattle.reasons.specs.Because.{clash-leads}
-use Rattle.reasons.specs.Told.{few, cleared, tells-stop, tells_none, tells_one, tells-clash}
+use Rattle.reasons.specs.Because.{clash_leads}
+use Rattle.reasons.specs.Told.{few, cleared, tells_stop, tells_none, tells_one, tells_clash}
 use Rattle.reasons.proofs.inner.walk.reason_of.Statement.{statement}
 use Rattle.reasons.proofs.inner.walk.reason_of.Tie as tie
 
@@ -15,7 +15,7 @@ returns c =
     let all-stopped = c.before.all-stopped in
     let if1 = c.if1 in
     let zero = cleared args.output.now _ pre.1 clear.ensures in
-    let t = tells-stop args.stops.now args.set.now _ zero (sym all-stopped.ensures ∙ if1.true) in
+    let t = tells_stop args.stops.now args.set.now _ zero (sym all-stopped.ensures ∙ if1.true) in
     (t.0, t.1, pre.0)
 
 returns-2 : tie.Need-returns-2
@@ -26,12 +26,12 @@ returns-2 c =
     let clear = c.before.before.before.before.before.before.before.before.before.before.clear in
     let all-stopped = c.before.before.before.before.before.before.before.all-stopped in
     let if1 = c.before.before.before.before.before.before.if1 in
-    let first-picked = c.before.before.before.before.first-picked in
+    let first_picked = c.before.before.before.before.first-picked in
     let enum_told = c.enum_told in
     let zero = cleared args.output.now _ pre.1 clear.ensures in
-    let found : first-picked.result ≡ New = enum_told.given.1 in
-    let t = tells_none args.stops.now args.set.now _ zero (sym all-stopped.ensures ∙ if1.false) (rw found at first-picked.ensures.0) in
-    (t.0, t.1, first-picked.ensures.1)
+    let found : first_picked.result ≡ New = enum_told.given.1 in
+    let t = tells_none args.stops.now args.set.now _ zero (sym all-stopped.ensures ∙ if1.false) (rw found at first_picked.ensures.0) in
+    (t.0, t.1, first_picked.ensures.1)
 
 state-of-requires : tie.Need-state-of-requires
 state-of-requires c κs =
@@ -56,16 +56,16 @@ returns-3 c =
     let clear = far.before.before.before.before.before.before.before.before.clear in
     let all-stopped = far.before.before.before.before.before.all-stopped in
     let if1 = far.before.before.before.before.if1 in
-    let first-picked = far.before.before.first-picked in
+    let first_picked = far.before.before.first-picked in
     let clash = c.before.before.before.before.before.before.before.before.before.before.clash in
     let first-picked2 = c.before.before.before.before.before.before.before.first-picked2 in
     let lone = c.before.before.before.lone in
     let state-of = c.before.state-of in
     let alternative-of = c.alternative-of in
     let zero = cleared args.output.now _ pre.1 clear.ensures in
-    let clashed : first-picked.result ≡ At clash.given.0.0 = clash.given.1 in
+    let clashed : first_picked.result ≡ At clash.given.0.0 = clash.given.1 in
     let found : first-picked2.result ≡ At lone.given.0.0 = lone.given.1 in
-    let t = tells_one args.stops.now args.set.now _ zero (sym all-stopped.ensures ∙ if1.false) _ (rw clashed at first-picked.ensures.0) _
+    let t = tells_one args.stops.now args.set.now _ zero (sym all-stopped.ensures ∙ if1.false) _ (rw clashed at first_picked.ensures.0) _
     (rw found at first-picked2.ensures.0) _ _ state-of.ensures alternative-of.ensures in
     (t.0, t.1, first-picked2.ensures.1)
 
@@ -76,23 +76,23 @@ write-clash-requires c κs =
     let args = farther.before.args in
     let pre = farther.before.requires in
     let clear = far.before.before.before.before.before.before.before.clear in
-    let first-picked = far.before.first-picked in
+    let first_picked = far.before.first-picked in
     let clash = c.before.before.before.before.before.before.before.before.before.clash in
     let first-picked2 = c.before.before.before.before.before.before.first-picked2 in
-    let clashed : first-picked.result ≡ At clash.given.0.0 = clash.given.1 in
-    let first = rw clashed at first-picked.ensures.0 in
+    let clashed : first_picked.result ≡ At clash.given.0.0 = clash.given.1 in
+    let first = rw clashed at first_picked.ensures.0 in
     let zero = cleared args.output.now _ pre.1 clear.ensures in
-    (first-picked2.ensures.1, zero, first.0, clash-leads args.set.now _ first)
+    (first-picked2.ensures.1, zero, first.0, clash_leads args.set.now _ first)
 
 state-of-requires-2 : tie.Need-state-of-requires-2
 state-of-requires-2 c κs =
     let far = c.before.before.before.before.before.before.before.before.before.before.before.before in
     let farther = far.before.before.before.before.before.before.before.before.before.before.before.before in
     let pre = farther.before.before.before.before.before.before.requires in
-    let first-picked = far.before.before.before.before.before.before.first-picked in
+    let first_picked = far.before.before.before.before.before.before.first-picked in
     let clash = far.before.before.clash in
-    let clashed : first-picked.result ≡ At clash.given.0.0 = clash.given.1 in
-    let first = rw clashed at first-picked.ensures.0 in
+    let clashed : first_picked.result ≡ At clash.given.0.0 = clash.given.1 in
+    let first = rw clashed at first_picked.ensures.0 in
     few pre.0 first.0
 
 context-of-requires : tie.Need-context-of-requires
@@ -100,10 +100,10 @@ context-of-requires c κs =
     let far = c.before.before.before.before.before.before.before.before.before.before.before.before in
     let farther = far.before.before.before.before.before.before.before.before.before.before.before.before in
     let pre = farther.before.before.before.before.before.before.before.requires in
-    let first-picked = far.before.before.before.before.before.before.before.first-picked in
+    let first_picked = far.before.before.before.before.before.before.before.first-picked in
     let clash = far.before.before.before.clash in
-    let clashed : first-picked.result ≡ At clash.given.0.0 = clash.given.1 in
-    let first = rw clashed at first-picked.ensures.0 in
+    let clashed : first_picked.result ≡ At clash.given.0.0 = clash.given.1 in
+    let first = rw clashed at first_picked.ensures.0 in
     few pre.0 first.0
 
 returns-4 : tie.Need-returns-4
@@ -113,17 +113,17 @@ returns-4 c =
     let args = farther.before.before.before.before.before.before.before.before.args in
     let all-stopped = far.before.before.before.before.before.before.before.before.before.before.before.all-stopped in
     let if1 = far.before.before.before.before.before.before.before.before.before.before.if1 in
-    let first-picked = far.before.before.before.before.before.before.before.before.first-picked in
+    let first_picked = far.before.before.before.before.before.before.before.before.first-picked in
     let clash = far.before.before.before.before.clash in
     let first-picked2 = far.before.first-picked2 in
     let enum-told2 = c.before.before.before.before.before.before.before.before.before.enum-told2 in
     let write-clash = c.before.before.before.before.before.before.write-clash in
     let state-of2 = c.before.state-of2 in
     let context-of = c.context-of in
-    let clashed : first-picked.result ≡ At clash.given.0.0 = clash.given.1 in
-    let first = rw clashed at first-picked.ensures.0 in
+    let clashed : first_picked.result ≡ At clash.given.0.0 = clash.given.1 in
+    let first = rw clashed at first_picked.ensures.0 in
     let none : first-picked2.result ≡ New = enum-told2.given.1 in
-    let t = tells-clash args.stops.now args.set.now _ (sym all-stopped.ensures ∙ if1.false) _ first (rw none at first-picked2.ensures.0)
+    let t = tells_clash args.stops.now args.set.now _ (sym all-stopped.ensures ∙ if1.false) _ first (rw none at first-picked2.ensures.0)
     write-clash.ensures.0 _ _ state-of2.ensures context-of.ensures in
     (t.0, t.1, write-clash.ensures.1)
 

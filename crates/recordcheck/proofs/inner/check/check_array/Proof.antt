@@ -2,7 +2,7 @@
 use borrow.Author.Rules.{rules}
 use native.Mathlib.Omega.{arith}
 use borrow.Author.Tests.{not_true, not_false}
-use Rattle.recordcheck.specs.Judge.{array-gap, array-short, array-past, array-unsound, many-fresh, many-good, many-bad}
+use Rattle.recordcheck.specs.Judge.{array_gap, array_short, array_past, array_unsound, many_fresh, many_good, many_bad}
 use Rattle.recordcheck.proofs.inner.check.check_array.Statement.{statement}
 use Rattle.recordcheck.proofs.inner.check.check_array.Tie as tie
 
@@ -10,7 +10,7 @@ returns : tie.Need-returns
 returns c =
     let pre = c.before.before.before.before.before.requires in
     let first_of = c.before.before.first_of in (
-      array-gap pre.0 pre.1 pre.2 first_of.ensures c.before.second-of.ensures c.if1.true,
+      array_gap pre.0 pre.1 pre.2 first_of.ensures c.before.second-of.ensures c.if1.true,
       pre.0.index.sized,
     )
 
@@ -19,7 +19,7 @@ returns-2 c =
     let pre = c.before.before.before.before.before.before.requires in
     let first_of = c.before.before.before.first_of in
     let second-of = c.before.before.second-of in (
-      array-short pre.0 pre.1 pre.2 first_of.ensures second-of.ensures c.if2.true,
+      array_short pre.0 pre.1 pre.2 first_of.ensures second-of.ensures c.if2.true,
       pre.0.index.sized,
     )
 
@@ -28,7 +28,7 @@ returns-3 c =
     let pre = c.before.before.before.before.before.before.before.requires in
     let first_of = c.before.before.before.before.first_of in
     let second-of = c.before.before.before.second-of in (
-      array-past pre.0 pre.1 pre.2 first_of.ensures second-of.ensures c.before.before.if1.false c.if3.true,
+      array_past pre.0 pre.1 pre.2 first_of.ensures second-of.ensures c.before.before.if1.false c.if3.true,
       pre.0.index.sized,
     )
 
@@ -42,7 +42,7 @@ returns-4 c =
     let pre = c.before.before.before.before.before.before.before.before.before.requires in
     let first_of = c.before.before.before.before.before.before.first_of in
     let second-of = c.before.before.before.before.before.second-of in (
-      array-unsound pre.0 pre.1 pre.2 first_of.ensures second-of.ensures
+      array_unsound pre.0 pre.1 pre.2 first_of.ensures second-of.ensures
           (rw (not_true c.before.entries-sound.result c.if4.true) at c.before.entries-sound.ensures),
       pre.0.index.sized,
     )
@@ -62,7 +62,7 @@ check-new-requires c κs =
     let entries-sound = c.before.before.before.before.before.before.entries-sound in
     let if4 = c.before.before.before.before.before.if4 in
     let load-entries = c.before.before.before.load-entries in
-    many-fresh pre.0 pre.1 pre.2 first_of.ensures second-of.ensures if1.false (omega arith) (omega (arith, if1.false, pre.0.within))
+    many_fresh pre.0 pre.1 pre.2 first_of.ensures second-of.ensures if1.false (omega arith) (omega (arith, if1.false, pre.0.within))
     (rw (not_false entries-sound.result if4.false) at entries-sound.ensures) load-entries.new.1.0 load-entries.ensures
 
 add-t17 : tie.Need-overflow-add-t17
@@ -80,7 +80,7 @@ returns-5 c =
     let if4 = c.before.before.before.before.before.before.before.before.before.if4 in
     let load-entries = c.before.before.before.before.before.before.before.load-entries in
     let check-new = c.before.before.before.check-new in
-    many-good pre.0 pre.1 pre.2 first_of.ensures second-of.ensures if1.false (omega arith) (omega (arith, if1.false, pre.0.within))
+    many_good pre.0 pre.1 pre.2 first_of.ensures second-of.ensures if1.false (omega arith) (omega (arith, if1.false, pre.0.within))
     (rw (not_false entries-sound.result if4.false) at entries-sound.ensures) load-entries.new.1.0 load-entries.ensures
     check-new.new.1.0 (rw c.if5.true at check-new.ensures)
 
@@ -94,7 +94,7 @@ returns-6 c =
     let if4 = c.before.before.before.before.before.before.before.before.before.if4 in
     let load-entries = c.before.before.before.before.before.before.before.load-entries in
     let check-new = c.before.before.before.check-new in
-    many-bad pre.0 pre.1 pre.2 first_of.ensures second-of.ensures if1.false (omega arith) (omega (arith, if1.false, pre.0.within))
+    many_bad pre.0 pre.1 pre.2 first_of.ensures second-of.ensures if1.false (omega arith) (omega (arith, if1.false, pre.0.within))
     (rw (not_false entries-sound.result if4.false) at entries-sound.ensures) load-entries.new.1.0 load-entries.ensures
     check-new.new.1.0 (rw c.if5.false at check-new.ensures)
 

@@ -3,7 +3,7 @@ use borrow.Author.Rules.{rules}
 use mathlib.Core.Path.{sym, ap, ◌∙◌}
 use Rattle.arena.specs.Trees.{at_nowhere}
 use Rattle.index.specs.Found.{found_of}
-use Rattle.recordcheck.specs.Fresh.{fresh-stacked, fresh-sought, fresh-indexed}
+use Rattle.recordcheck.specs.Fresh.{fresh_stacked, fresh_sought, fresh_indexed}
 use Rattle.recordcheck.proofs.inner.check.check_new.Statement.{statement}
 use Rattle.recordcheck.proofs.inner.check.check_new.Tie as tie
 
@@ -11,13 +11,13 @@ entries-hash-requires : tie.Need-entries-hash-requires
 entries-hash-requires c κs =
     let args = c.before.before.before.args in
     let pre = c.before.before.before.requires in
-    (fresh-stacked args.store.now args.scratch.now args.context args.n pre, pre.proper.some)
+    (fresh_stacked args.store.now args.scratch.now args.context args.n pre, pre.proper.some)
 
 find-interned-requires : tie.Need-find-interned-requires
 find-interned-requires c κs =
     let args = c.before.before.before.before.before.args in
     let pre = c.before.before.before.before.before.requires in
-    fresh-sought args.store.now args.scratch.now args.context args.n pre c.before.entries-hash.result
+    fresh_sought args.store.now args.scratch.now args.context args.n pre c.before.entries-hash.result
     c.before.entries-hash.ensures
 
 add-to-index-requires : tie.Need-add-to-index-requires
@@ -34,7 +34,7 @@ returns c =
     let enum-told2 = c.before.before.before.before.enum-told2 in (
       sym find-interned.ensures ∙ ap found_of enum-told2.given.1,
       rw c.before.before.add-to-index.ensures
-          (fresh-indexed args.store.now args.scratch.now args.context args.n pre entries-hash.result entries-hash.ensures),
+          (fresh_indexed args.store.now args.scratch.now args.context args.n pre entries-hash.result entries-hash.ensures),
     )
 
 returns-2 : tie.Need-returns-2

@@ -21,23 +21,23 @@ returns-2 c = λ v. (rw (not_true c.before.rises.result c.if2.true) at c.before.
 returns-3 : tie.Need-returns-3
 returns-3 c =
     let args = c.before.before.before.before.before.before.before.args in
-    let pool-parent = c.before.before.before.before.before.pool-parent in
+    let pool_parent = c.before.before.before.before.before.pool-parent in
     let rises = c.before.before.before.rises in
     tells_if (EntryAt (state args.store.now) (parent args.store.now) args.from args.place args.context) _
     (λ t. record {
-      older = omega (arith, pool-parent.ensures);
+      older = omega (arith, pool_parent.ensures);
       rise = rw (not_false rises.result c.before.before.if2.false) at rises.ensures;
-      dollar = λ _. sym pool-parent.ensures
+      dollar = λ _. sym pool_parent.ensures
           ∙ eqb-true _ _ t;
     })
-    (λ f v. eqb-false _ _ f (pool-parent.ensures ∙ v.dollar (sym c.before.pool-state.ensures ∙ c.if3.true)))
+    (λ f v. eqb-false _ _ f (pool_parent.ensures ∙ v.dollar (sym c.before.pool-state.ensures ∙ c.if3.true)))
 
 returns-4 : tie.Need-returns-4
 returns-4 c =
-    let pool-parent = c.before.before.before.before.before.pool-parent in
+    let pool_parent = c.before.before.before.before.before.pool-parent in
     let rises = c.before.before.before.rises in
     record {
-      older = omega (arith, pool-parent.ensures);
+      older = omega (arith, pool_parent.ensures);
       rise = rw (not_false rises.result c.before.before.if2.false) at rises.ensures;
       dollar = λ e. absurd
           (c.if3.false (c.before.pool-state.ensures ∙ e));

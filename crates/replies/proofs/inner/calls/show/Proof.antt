@@ -2,7 +2,7 @@
 use borrow.Author.Rules.{rules}
 use mathlib.Core.Path.{◌≡◌}
 use Rattle.store.specs.declared.inner.admit.Admitted.TheVariants.{Refused}
-use Rattle.replies.specs.Replies.Laws.{show-refused, show-done}
+use Rattle.replies.specs.Replies.Laws.{show_refused, show_done}
 use Rattle.replies.proofs.inner.calls.show.Statement.{statement}
 use Rattle.replies.proofs.inner.calls.show.Tie as tie
 
@@ -12,7 +12,7 @@ returns c =
     let ask = c.before.before.before.before.before.before.before.before.before.before.ask in
     let asked = c.before.before.before.before.before.before.asked in
     let e : ask.result ≡ Refused asked.given.0.0 = cc in
-    show-refused ask.ensures args.out.now _ _ asked.given.0.0 e _ c.before.before.before.refusal-number.ensures
+    show_refused ask.ensures args.out.now _ _ asked.given.0.0 e _ c.before.before.before.refusal-number.ensures
     c.before.before.lay-number.ensures
 
 lay-entries-requires : tie.Need-lay-entries-requires
@@ -26,7 +26,7 @@ returns-2 c =
     let args = c.before.before.before.before.before.before.before.before.before.before.before.before.before.before.args in
     let ask = c.before.before.before.before.before.before.before.before.before.ask in
     let enum_told = c.before.before.before.before.before.enum_told in
-    show-done ask.ensures args.out.now _ _ enum_told.given.1 c.before.before.lay-entries.ensures
+    show_done ask.ensures args.out.now _ _ enum_told.given.1 c.before.before.lay-entries.ensures
 
 pub show-spec : {M : Type 1} → statement M
 show-spec =

@@ -3,7 +3,7 @@ use borrow.Author.Rules.{rules}
 use mathlib.Core.Path.{sym, ap, ◌∙◌}
 use Rattle.setcheck.specs.Configs.{config_of}
 use Rattle.setcheck.specs.Keys.{place_of}
-use Rattle.setcheck.specs.Judged.{unknown-bad, passed-sought, found-bad, new-passed}
+use Rattle.setcheck.specs.Judged.{unknown_bad, passed_sought, found_bad, new_passed}
 use Rattle.setcheck.proofs.inner.check.check_config.Statement.{statement}
 use Rattle.setcheck.proofs.inner.check.check_config.Tie as tie
 
@@ -11,14 +11,14 @@ returns : tie.Need-returns
 returns c =
     let pre = c.before.before.before.before.requires in
     let args = c.before.before.before.before.args in
-    (unknown-bad pre.0 pre.1 (config_of args.config) pre.2 c.if1.true, pre.0.lent)
+    (unknown_bad pre.0 pre.1 (config_of args.config) pre.2 c.if1.true, pre.0.lent)
 
 find-key-requires : tie.Need-find-key-requires
 find-key-requires c κs =
     let pre = c.before.before.before.before.before.before.requires in
     let args = c.before.before.before.before.before.before.args in
     let key-bucket = c.before.key-bucket in
-    passed-sought pre.0 pre.1 (config_of args.config) pre.2 key-bucket.result key-bucket.ensures.0 key-bucket.ensures.1
+    passed_sought pre.0 pre.1 (config_of args.config) pre.2 key-bucket.result key-bucket.ensures.0 key-bucket.ensures.1
 
 link-key-requires : tie.Need-link-key-requires
 link-key-requires c κs =
@@ -35,7 +35,7 @@ returns-2 c =
     let find-key = c.before.before.before.before.before.before.find-key in
     let enum-told2 = c.before.before.before.before.enum-told2 in
     let link-key = c.before.before.link-key in
-    new-passed pre.0 pre.1 (config_of args.config) pre.2 key-bucket.result key-bucket.ensures.0 key-bucket.ensures.1
+    new_passed pre.0 pre.1 (config_of args.config) pre.2 key-bucket.result key-bucket.ensures.0 key-bucket.ensures.1
     if1.false (sym find-key.ensures ∙ ap place_of enum-told2.given.1) link-key.new.0 link-key.ensures
 
 returns-3 : tie.Need-returns-3
@@ -44,7 +44,7 @@ returns-3 c =
     let args = c.before.before.before.before.before.before.before.before.before.args in
     let key-bucket = c.before.before.before.before.key-bucket in
     let find-key = c.before.before.find-key in (
-      found-bad pre.0 pre.1 (config_of args.config) pre.2 key-bucket.result key-bucket.ensures.0 key-bucket.ensures.1
+      found_bad pre.0 pre.1 (config_of args.config) pre.2 key-bucket.result key-bucket.ensures.0 key-bucket.ensures.1
           _ (sym find-key.ensures ∙ ap place_of c.enum_told.given.1),
       pre.0.lent,
     )

@@ -4,7 +4,7 @@ use native.Mathlib.Omega.{arith}
 use mathlib.Core.Path.{sym, ap, ◌∙◌}
 use Rattle.sets.specs.Sets.{same_keys}
 use Rattle.setcheck.specs.Configs.{config_of}
-use Rattle.setcheck.specs.Keys.{Walking, walk-begin, walk_here, walk-hit, walk-on, walk_end}
+use Rattle.setcheck.specs.Keys.{Walking, walk_begin, walk_here, walk_hit, walk_on, walk_end}
 use Rattle.setcheck.proofs.inner.keys.find_key.Statement.{statement}
 use Rattle.setcheck.proofs.inner.keys.find_key.Tie as tie
 
@@ -27,7 +27,7 @@ shared-slice-read-next c =
 loop-holds : tie.Need-loop-init invariant-loop decreases-loop
 loop-holds c =
     let pre = c.before.before.before.requires in
-    walk-begin pre
+    walk_begin pre
 
 sub-place : tie.Need-overflow-sub-place invariant-loop decreases-loop
 sub-place c = omega arith
@@ -48,7 +48,7 @@ returns c =
     let loop = c.before.before.before.before.loop in
     let loop-test = c.before.before.before.loop-test in
     let e = c.before.same_key.ensures ∙ ap (same_keys (config_of args.config)) config-at.ensures in
-    sym (walk-hit pre loop.next loop-test.true loop.invariant (sym c.if1.true ∙ e))
+    sym (walk_hit pre loop.next loop-test.true loop.invariant (sym c.if1.true ∙ e))
 
 add-next-2 : tie.Need-overflow-add-next-2 invariant-loop decreases-loop
 add-next-2 c =
@@ -73,7 +73,7 @@ loop-less c =
     let loop = c.before.before.before.before.before.loop in
     let loop-test = c.before.before.before.before.loop-test in
     let e = same_key.ensures ∙ ap (same_keys (config_of args.config)) config-at.ensures in
-    (walk-on pre loop.next loop-test.true loop.invariant (sym c.before.if1.false ∙ e)).1
+    (walk_on pre loop.next loop-test.true loop.invariant (sym c.before.if1.false ∙ e)).1
 
 loop-again : tie.Need-loop-preserved invariant-loop decreases-loop
 loop-again c =
@@ -84,7 +84,7 @@ loop-again c =
     let loop = c.before.before.before.before.before.loop in
     let loop-test = c.before.before.before.before.loop-test in
     let e = same_key.ensures ∙ ap (same_keys (config_of args.config)) config-at.ensures in
-    (walk-on pre loop.next loop-test.true loop.invariant (sym c.before.if1.false ∙ e)).0
+    (walk_on pre loop.next loop-test.true loop.invariant (sym c.before.if1.false ∙ e)).0
 
 returns-2 : tie.Need-returns-2 invariant-loop decreases-loop
 returns-2 c =

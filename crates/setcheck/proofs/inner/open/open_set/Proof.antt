@@ -2,14 +2,14 @@
 use borrow.Author.Rules.{rules}
 use mathlib.Core.Path.{◌≡◌}
 use Rattle.store.specs.declared.inner.admit.Admitted.TheVariants.{Ready as ready, Refused}
-use Rattle.setcheck.specs.Opened.{short-set, refused-store, unsound-set, ready-set}
+use Rattle.setcheck.specs.Opened.{short_set, refused_store, unsound_set, ready_set}
 use Rattle.setcheck.proofs.inner.open.open_set.Statement.{statement}
 use Rattle.setcheck.proofs.inner.open.open_set.Tie as tie
 
 returns : tie.Need-returns
 returns c =
     let args = c.before.before.before.before.args in
-    short-set args.store.now args.set.now args.scratch.now c.if1.true
+    short_set args.store.now args.set.now args.scratch.now c.if1.true
 
 returns-2 : tie.Need-returns-2
 returns-2 c =
@@ -18,7 +18,7 @@ returns-2 c =
     let args = c.before.before.before.before.before.before.before.before.before.before.args in
     let if1 = c.before.before.before.before.before.before.if1 in
     let e : open-store.result ≡ Refused enum-told2.given.0.0 = enum-told2.given.1 in
-    rw e (refused-store args.store.now args.set.now args.scratch.now if1.false enum-told2.given.0.0 open-store.new.1.0
+    rw e (refused_store args.store.now args.set.now args.scratch.now if1.false enum-told2.given.0.0 open-store.new.1.0
     (rw e at open-store.ensures))
 
 count-of-requires : tie.Need-count-of-requires
@@ -44,7 +44,7 @@ returns-3 c =
     let check-set = c.before.before.before.check-set in
     let count_of = c.before.before.before.before.before.count_of in
     let e : open-store.result ≡ ready = enum_told.given.1 in
-    ready-set args.store.now args.set.now args.scratch.now if1.false open-store.new.1.0 check-set.new.1.0
+    ready_set args.store.now args.set.now args.scratch.now if1.false open-store.new.1.0 check-set.new.1.0
     (rw e at open-store.ensures) (rw (c.if2.true, count_of.ensures) at check-set.ensures)
 
 returns-4 : tie.Need-returns-4
@@ -59,7 +59,7 @@ returns-4 c =
     let count_of = c.before.before.before.before.before.before.before.before.before.count_of in
     let clear = c.before.before.clear in
     let e : open-store.result ≡ ready = enum_told.given.1 in
-    unsound-set args.store.now args.set.now args.scratch.now if1.false open-store.new.1.0 check-set.new.1.0
+    unsound_set args.store.now args.set.now args.scratch.now if1.false open-store.new.1.0 check-set.new.1.0
     (rw e at open-store.ensures) (rw (if2.false, count_of.ensures) at check-set.ensures) clear.new.0 clear.ensures
 
 pub open-set-spec : {M : Type 1} → statement M

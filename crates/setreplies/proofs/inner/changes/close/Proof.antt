@@ -1,7 +1,7 @@
 -- By cases of the answer.
 use borrow.Author.Rules.{rules}
 use Rattle.lines.specs.Lines.{closed_line}
-use Rattle.setreplies.specs.Settled.{closed-done, closed-refused}
+use Rattle.setreplies.specs.Settled.{closed_done, closed_refused}
 use Rattle.setreplies.proofs.inner.changes.close.Statement.{statement}
 use Rattle.setreplies.proofs.inner.changes.close.Tie as tie
 
@@ -12,7 +12,7 @@ returns c =
     let close = c.before.before.before.before.before.before.before.before.before.before.close in
     let enum_told = c.before.before.before.before.enum_told in
     let lay-letter = c.before.before.lay-letter in
-    closed-done args.out.now _ _ close.result _ _ _ _ _ close.ensures enum_told.given.1 lay-letter.ensures
+    closed_done args.out.now _ _ close.result _ _ _ _ _ close.ensures enum_told.given.1 lay-letter.ensures
 
 returns-2 : tie.Need-returns-2
 returns-2 c =
@@ -22,7 +22,7 @@ returns-2 c =
     let answer = c.before.before.before.before.before.before.answer in
     let refusal-number = c.before.before.before.refusal-number in
     let lay-number = c.before.before.lay-number in
-    closed-refused args.out.now _ _ close.result _ _ _ _ _ close.ensures answer.given.0.0 answer.given.1 _
+    closed_refused args.out.now _ _ close.result _ _ _ _ _ close.ensures answer.given.0.0 answer.given.1 _
     refusal-number.ensures lay-number.ensures
 
 pub close_spec : {M : Type 1} → statement M

@@ -1,7 +1,7 @@
 -- By cases of the answer.
 use borrow.Author.Rules.{rules}
 use Rattle.lines.specs.Lines.{new_set_line}
-use Rattle.setreplies.specs.Settled.{new-done, new-refused}
+use Rattle.setreplies.specs.Settled.{new_done, new_refused}
 use Rattle.setreplies.proofs.inner.changes.new_set.Statement.{statement}
 use Rattle.setreplies.proofs.inner.changes.new_set.Tie as tie
 
@@ -13,7 +13,7 @@ returns c =
     let enum_told = c.before.before.before.before.before.before.before.before.enum_told in
     let wipe = c.before.before.before.before.before.before.wipe in
     let lay-letter = c.before.before.lay-letter in
-    new-done args.out.now _ _ args.set.now _ args.scratch.now _ fresh_set_lem.result fresh_set_lem.ensures enum_told.given.1 _ wipe.ensures lay-letter.ensures
+    new_done args.out.now _ _ args.set.now _ args.scratch.now _ fresh_set_lem.result fresh_set_lem.ensures enum_told.given.1 _ wipe.ensures lay-letter.ensures
 
 returns-2 : tie.Need-returns-2
 returns-2 c =
@@ -22,7 +22,7 @@ returns-2 c =
     let answer = c.before.before.before.before.before.before.answer in
     let refusal-number = c.before.before.before.refusal-number in
     let lay-number = c.before.before.lay-number in
-    new-refused args.out.now _ _ args.set.now _ args.scratch.now _ fresh_set_lem.result fresh_set_lem.ensures answer.given.0.0 answer.given.1 _
+    new_refused args.out.now _ _ args.set.now _ args.scratch.now _ fresh_set_lem.result fresh_set_lem.ensures answer.given.0.0 answer.given.1 _
     refusal-number.ensures lay-number.ensures
 
 pub new-set-spec : {M : Type 1} → statement M

@@ -3,7 +3,7 @@ use borrow.Author.Rules.{rules}
 use native.Mathlib.Omega.{arith}
 use Rattle.format.specs.Bytes.{words_at}
 use Rattle.format.specs.Bytes.Laws.{length_words}
-use Rattle.setreplies.specs.Holds.{too_many, held-call}
+use Rattle.setreplies.specs.Holds.{too_many, held_call}
 use Rattle.setreplies.proofs.inner.stops.hold.Statement.{statement}
 use Rattle.setreplies.proofs.inner.stops.hold.Tie as tie
 
@@ -35,7 +35,7 @@ returns-2 c =
     let args = c.before.before.before.before.before.before.before.before.before.args in
     let fill = c.before.before.before.before.fill in
     let lay-number2 = c.before.before.lay-number2 in
-    held-call args.out.now _ _ args.stops.now (words_at args.bytes.now args.at args.count) args.count _
+    held_call args.out.now _ _ args.stops.now (words_at args.bytes.now args.at args.count) args.count _
     (length_words args.bytes.now args.at args.count) (omega arith) fill.ensures lay-number2.ensures
 
 pub hold-spec : {M : Type 1} → statement M

@@ -3,19 +3,19 @@ use borrow.Author.Rules.{rules}
 use mathlib.Core.Path.{sym, ap, ◌∙◌}
 use mathlib.Core.List.{List}
 use Rattle.store.specs.Calls.{refused, leaves}
-use Rattle.store.specs.Admit.{short-store, short-scratch, unsound, sound-goes, cleared}
+use Rattle.store.specs.Admit.{short_store, short_scratch, unsound, sound_goes, cleared}
 use Rattle.store.proofs.inner.admit.open_store.Statement.{statement}
 use Rattle.store.proofs.inner.admit.open_store.Tie as tie
 
 returns : tie.Need-returns
 returns c =
     let args = c.before.before.before.args in
-    λ go. short-store args.store.now args.scratch.now go c.if1.true
+    λ go. short_store args.store.now args.scratch.now go c.if1.true
 
 returns-2 : tie.Need-returns-2
 returns-2 c =
     let args = c.before.before.before.before.args in
-    λ go. short-scratch args.store.now args.scratch.now go c.if2.true
+    λ go. short_scratch args.store.now args.scratch.now go c.if2.true
 
 returns-3 : tie.Need-returns-3
 returns-3 c =
@@ -23,7 +23,7 @@ returns-3 c =
     let if1 = c.before.before.before.before.before.before.if1 in
     let if2 = c.before.before.before.before.before.if2 in
     let v = rw c.if3.true at c.before.before.before.check-store.ensures in
-    (v, λ go. sound-goes args.store.now args.scratch.now go if1.false if2.false v.sound)
+    (v, λ go. sound_goes args.store.now args.scratch.now go if1.false if2.false v.sound)
 
 returns-4 : tie.Need-returns-4
 returns-4 c =

@@ -6,7 +6,7 @@ use borrow.Author.Tests.{not_true, not_false}
 use Rattle.recordcheck.specs.declared.inner.check.Checked.TheVariants.{Good, Bad}
 use Rattle.layout.specs.Layout.{count}
 use Rattle.recordcheck.specs.Check.{Passed}
-use Rattle.encoding.specs.Reads.{used-lengths}
+use Rattle.encoding.specs.Reads.{used_lengths}
 use Rattle.storecheck.specs.Judgements.{sound_record, sound_unused, ready, judged_if}
 use Rattle.storecheck.proofs.inner.check.check_store.Statement.{statement}
 use Rattle.storecheck.proofs.inner.check.check_store.Tie as tie
@@ -57,7 +57,7 @@ returns-6 c =
     let e : check-records.result ≡ Good checked.given.0.0 = cc in
     let p : Passed args.store.now check-records.new.1.0 count_of.result checked.given.0.0 = rw e at check-records.ensures in
     let q : Passed args.store.now check-records.new.1.0 (count args.store.now) checked.given.0.0 = rw count_of.ensures at p in
-    (λ v. c.if5.true (q.filled ∙ sym (used-lengths args.store.now v) ∙ sym used-of.ensures), p.index.sized)
+    (λ v. c.if5.true (q.filled ∙ sym (used_lengths args.store.now v) ∙ sym used-of.ensures), p.index.sized)
 
 returns-7 : tie.Need-returns-7
 returns-7 c =

@@ -5,7 +5,7 @@ use borrow.Author.Tests.{not_true, not_false}
 use mathlib.Core.Bool.{false≢true}
 use Rattle.recordcheck.specs.Check.{Unused}
 use Rattle.recordcheck.specs.Judge.{tells_if}
-use Rattle.storecheck.specs.Judgements.{unused_of, zero-records, zero-parents, zero-states}
+use Rattle.storecheck.specs.Judgements.{unused_of, zero_records, zero_parents, zero_states}
 use Rattle.storecheck.proofs.inner.check.unused_zero.Statement.{statement}
 use Rattle.storecheck.proofs.inner.check.unused_zero.Tie as tie
 
@@ -13,14 +13,14 @@ returns : tie.Need-returns
 returns c =
     let args = c.before.before.before.args in
     λ u. false≢true
-    (sym (not_true c.before.all-zero.result c.if1.true) ∙ c.before.all-zero.ensures ∙ zero-records args.store.now
+    (sym (not_true c.before.all-zero.result c.if1.true) ∙ c.before.all-zero.ensures ∙ zero_records args.store.now
     args.count args.used u)
 
 returns-2 : tie.Need-returns-2
 returns-2 c =
     let args = c.before.before.before.before.before.args in
     λ u. false≢true
-    (sym (not_true c.before.all-zero2.result c.if2.true) ∙ c.before.all-zero2.ensures ∙ zero-parents args.store.now
+    (sym (not_true c.before.all-zero2.result c.if2.true) ∙ c.before.all-zero2.ensures ∙ zero_parents args.store.now
     args.count args.used u)
 
 returns-3 : tie.Need-returns-3
@@ -32,7 +32,7 @@ returns-3 c =
     (λ t. unused_of args.store.now args.count args.used
     (sym all-zero.ensures ∙ not_false all-zero.result c.before.before.before.if1.false)
     (sym all-zero2.ensures ∙ not_false all-zero2.result c.before.if2.false) (sym c.all-zero3.ensures ∙ t))
-    (λ f u. false≢true (sym f ∙ c.all-zero3.ensures ∙ zero-states args.store.now args.count args.used u))
+    (λ f u. false≢true (sym f ∙ c.all-zero3.ensures ∙ zero_states args.store.now args.count args.used u))
 
 pub unused-zero-spec : {M : Type 1} → statement M
 unused-zero-spec =

@@ -1,6 +1,6 @@
 -- By the number: one above that of the other words has them all.
 use native.Mathlib.Omega.{arith}
-use Rattle.verdictreplies.specs.Figured.{held_all, held-some}
+use Rattle.verdictreplies.specs.Figured.{held_all, held_some}
 use Rattle.verdictreplies.proofs.inner.verdict.held_to.Statement.{statement}
 use Rattle.verdictreplies.proofs.inner.verdict.held_to.Tie as tie
 
@@ -24,7 +24,7 @@ add-result c = omega arith
 returns-2 : tie.Need-returns-2
 returns-2 c =
     let args = c.before.before.args in
-    (omega arith, omega arith, held-some args.list.now)
+    (omega arith, omega arith, held_some args.list.now)
 
 pub held-to-spec : {M : Type 1} → statement M
 held-to-spec =

@@ -1,7 +1,7 @@
 -- The states held, the call, and its line.
 use borrow.Author.Rules.{rules}
 use native.Mathlib.Omega.{arith}
-use Rattle.verdictreplies.specs.Figured.{held_stops_lem, told_all, told-refused}
+use Rattle.verdictreplies.specs.Figured.{held_stops_lem, told_all, told_refused}
 use Rattle.verdictreplies.proofs.inner.verdict.verdict.Statement.{statement}
 use Rattle.verdictreplies.proofs.inner.verdict.verdict.Tie as tie
 
@@ -53,7 +53,7 @@ returns-2 c =
     let told2 = c.before.before.before.before.before.before.told2 in
     let refusal-number = c.before.before.before.refusal-number in
     let lay-number = c.before.before.lay-number in
-    told-refused args.out.now _ _ _ _ _ figures.result _ _ _ figures.ensures (held_stops_lem args.stops.now _ held_to.ensures.2) told2.given.0.0 told2.given.1 _
+    told_refused args.out.now _ _ _ _ _ figures.result _ _ _ figures.ensures (held_stops_lem args.stops.now _ held_to.ensures.2) told2.given.0.0 told2.given.1 _
     refusal-number.ensures lay-number.ensures
 
 pub verdict-spec : {M : Type 1} → statement M
