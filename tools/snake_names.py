@@ -73,7 +73,7 @@ def declared(text):
 
 def is_own(path, crates):
     steps = path.split(".")
-    return steps[0] != "Rattle" and steps[0] not in ("Prim", "mathlib", "lib") or len(steps) > 1 and steps[1] in crates
+    return steps[0] == "package" or steps[0] == "Rattle" and len(steps) > 1 and steps[1] in crates
 
 
 def main(argv):

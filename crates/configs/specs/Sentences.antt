@@ -4,7 +4,7 @@ use Rattle.std.proofs.Common.{◌∙◌, subst, arith, length-append}
 use Rattle.std.specs.Prelude.{◌↔◌, ◌≢◌, Bool, true, false, not, ℕ, suc, ◌+◌, ◌-◌, ◌<◌, ◌≤◌, max, get_or}
 use mathlib.Core.List.{List, [], ◌∷◌, ◌++◌}
 use Rattle.std.proofs.Math.ListN.{length}
-use borrow.Author.Tests.{not_false, ltb-true, leb-false}
+use borrow.Author.Tests.{not-false, ltb-true, leb-false}
 use Rattle.words.specs.Provenance.{mark_of}
 use Rattle.words.specs.Provenance.Laws.{mark_of_merged}
 use Rattle.stacks.specs.Forest.{mem}
@@ -74,7 +74,7 @@ module _ (w v z : List ℕ) (x : Config) (a : ℕ) (w' v' : List ℕ) (ok : Adds
 
   pub context_known : x.context < contexts w
   unfolding add_checks lent_checks
-  context_known = ltb-true x.context (contexts w) (not_false _ passed.1.1.1.1.0)
+  context_known = ltb-true x.context (contexts w) (not-false _ passed.1.1.1.1.0)
 
   after : Addition
   after = add_to (store_of w) (set_of v) x
@@ -213,7 +213,7 @@ module _ (w v z : List ℕ) (x : Config) (a : ℕ) (w' v' : List ℕ) (ok : Adds
         ∙ known_goes w (config_at v i).context _ (l.set-sound.known i here)
         ∙ known_goes w x.context _ context_known
         ∙ made_is w (counting (not (flag 1 v)) (store_of w) (config_at v i).context x.context) (merged_to w v x i)
-        (rw work at little) (not_false _ (rw joining at there_is_room))
+        (rw work at little) (not-false _ (rw joining at there_is_room))
         ∙ rw (c, s, ap (λ (l : SetLeft). l.merges) outcome, ap (λ (l : SetLeft). l.made) outcome, work, joining)
 
     pub merged_accepted : ((merge_call w z (config_at v i).context x.context (not (flag 1 v))).reply ≡ context (config_at v' i).context)

@@ -4,7 +4,7 @@ use Rattle.std.proofs.Common.{sym, ◌∙◌}
 use Rattle.std.proofs.Math.Path.{fun_ext}
 use Rattle.std.proofs.Math.Logic.{inl, inr, ⊎_elim}
 use mathlib.Core.List.{List, [], ◌∷◌}
-use borrow.Author.Tests.{eqb-true, eq-eqb, not_true}
+use borrow.Author.Tests.{eqb-true, eq-eqb, not-true}
 use Rattle.sets.specs.Config.{Config}
 use Rattle.cases.specs.Bools.{bool?, never_both, bool_iff, both_true}
 use Rattle.groups.specs.Lists.{Any, All, Pairwise, Before, which}
@@ -70,7 +70,7 @@ module _ (alike : Config → Config → Bool) where
   unfolding firsts
   firsts_once [] = tt
   firsts_once (c ∷ cs) = (
-    every_map (λ d. other c d ≡ true) (λ d. alike c d ≡ false) (which (other c) (firsts alike cs)) (λ d e. not_true (alike c d) e) (which_pass (other c) (firsts alike cs)),
+    every_map (λ d. other c d ≡ true) (λ d. alike c d ≡ false) (which (other c) (firsts alike cs)) (λ d e. not-true (alike c d) e) (which_pass (other c) (firsts alike cs)),
     pairwise_which (other c) (λ d e. alike d e ≡ false) (λ d e. alike d e ≡ false) (firsts alike cs) (λ d e p q h. h) (firsts_once cs),
   )
 
@@ -97,5 +97,5 @@ module _ (alike : Config → Config → Bool) where
     firsts_order (c ∷ cs) = (
       every_of (Ahead (c ∷ cs) c) (which (other c) (firsts alike cs)) (λ d. inl (K.self c)),
       pairwise_which (other c) (Ahead cs) (Ahead (c ∷ cs)) (firsts alike cs)
-          (λ d e p q h. inr (λ k. never_both (K.swap e c k) (not_true (alike c e) q), h)) (firsts_order cs),
+          (λ d e p q h. inr (λ k. never_both (K.swap e c k) (not-true (alike c e) q), h)) (firsts_order cs),
     )

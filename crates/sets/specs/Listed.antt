@@ -6,7 +6,7 @@ use Rattle.std.proofs.Math.Bool.{true, not, and-false}
 use Prim.Native.Nat.{ℕ, zero, suc, ◌<◌}
 use native.Mathlib.Omega.{arith}
 use Rattle.std.proofs.lemmas.List.{get_or_at}
-use borrow.Author.Tests.{not_true}
+use borrow.Author.Tests.{not-true}
 use Rattle.cases.specs.Numbers.{two}
 use Rattle.sets.specs.Config.{Config}
 use Rattle.sets.specs.Lists.{any, all}
@@ -101,7 +101,7 @@ module _ (v : List ℕ) where
       sym (distinct_more (configs_in v n) (config_at v n)) ∙ e in
       two j n
       (λ a.
-      let none = not_true _ (and_right (distinct (configs_in v n)) _ d) in
+      let none = not-true _ (and_right (distinct (configs_in v n)) _ d) in
       never_both (same_of_key (config_at v n) (config_at v i) (sym (rw a at q))) (any_none (same_keys (config_at v n)) v n none i (omega arith)))
       (λ a. distinct_at n (and_left (distinct (configs_in v n)) _ d) i j h (omega arith) q)
 

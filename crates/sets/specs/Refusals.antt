@@ -3,7 +3,7 @@ use Rattle.std.specs.Prelude.{◌≡◌, ◌↔◌, Bool, true, ◌&&◌, List, 
 use Rattle.std.proofs.Math.Path.{refl, ap}
 use Rattle.std.proofs.Common.{sym, ◌∙◌, arith}
 use Rattle.std.proofs.Math.Bool.{not}
-use borrow.Author.Tests.{eq-eqb, ne_eqb, eqb-true, leb-true, le-leb, not_true, not_false}
+use borrow.Author.Tests.{eq-eqb, ne_eqb, eqb-true, leb-true, le-leb, not-true, not-false}
 use Rattle.cases.specs.Numbers.{two}
 use Rattle.layout.specs.Layout.{store_words, scratch_words, count as contexts}
 use Rattle.layout.specs.Sound.{SoundWords}
@@ -84,13 +84,13 @@ module _ (w v z : List ℕ) where
   pub clear_lent : Clear (lent_checks (lent_lengths w v z) w v []) → SoundLent
   unfolding lent_checks
   clear_lent c =
-      let l = lengths_right (not_false _ c.0) in
+      let l = lengths_right (not-false _ c.0) in
       record {
         store_length = l.0;
         set_length = l.1;
         scratch_length = l.2;
-        store_sound = sound_true w l.0 (not_false _ c.1.0);
-        set_sound = sound_set_true (contexts w) v (not_false _ c.1.1.0);
+        store_sound = sound_true w l.0 (not-false _ c.1.0);
+        set_sound = sound_set_true (contexts w) v (not-false _ c.1.1.0);
       }
 
   pub lent_clear : SoundLent → Clear (lent_checks (lent_lengths w v z) w v [])
@@ -115,7 +115,7 @@ module _ (k : ℕ) (v : List ℕ) (x : Config) (s : SoundSet k v) where
 
   full_new : (not (any (same_keys x) (set_of v).configs) && leb most_configs (length (set_of v).configs)) ≡ true → Full
   full_new t =
-      let none = not_true _ (and_left _ (leb most_configs (length (set_of v).configs)) t) in
+      let none = not-true _ (and_left _ (leb most_configs (length (set_of v).configs)) t) in
       let most = leb-true most_configs (length (set_of v).configs) (and_right (not (any (same_keys x) (set_of v).configs)) _ t) in (
         λ i h q. never_both (same_of_key x (config_at v i) (sym q)) (any_none (same_keys x) v (config_count v) none i h),
         omega (arith, configs_length v (config_count v), s.counted),

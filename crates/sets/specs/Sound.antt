@@ -5,7 +5,7 @@ use Rattle.std.proofs.Math.Path.{subst}
 use Rattle.std.proofs.Math.Bool.{not}
 use mathlib.Core.List.{List}
 use Rattle.std.proofs.Math.Dec.{ltb}
-use borrow.Author.Tests.{ne_eqb, eqb-false, not_true, ltb-true, lt-ltb, leb-true, le-leb}
+use borrow.Author.Tests.{ne_eqb, eqb-false, not-true, ltb-true, lt-ltb, leb-true, le-leb}
 use Rattle.encoding.specs.Decide.{same_words}
 use Rattle.encoding.specs.Decide.Laws.{same_words_lem, words_same}
 use Rattle.sets.specs.Lists.{all}
@@ -22,7 +22,7 @@ use Rattle.sets.specs.Held.{HeldSet, held_words, words_held, held_set}
 module _ (v : List ℕ) (n : ℕ) where
   pub semantic_at : has_semantic (configs_in v n) ≡ true → (i : ℕ) × (i < n) × ((config_at v i).semantic ≡ 0 → ⊥)
   unfolding has_semantic
-  semantic_at e = let r = any_at (λ x. not (eqb x.semantic 0)) v n e in (r.0, r.1, eqb-false _ 0 (not_true _ r.2))
+  semantic_at e = let r = any_at (λ x. not (eqb x.semantic 0)) v n e in (r.0, r.1, eqb-false _ 0 (not-true _ r.2))
 
   pub at_semantic : (i : ℕ) × (i < n) × ((config_at v i).semantic ≡ 0 → ⊥) → has_semantic (configs_in v n) ≡ true
   unfolding has_semantic

@@ -2,7 +2,7 @@
 use borrow.Author.Rules.{rules}
 use native.Mathlib.Omega.{arith}
 use mathlib.Core.Path.{refl, sym, ◌∙◌}
-use borrow.Author.Tests.{not_true, not_false}
+use borrow.Author.Tests.{not-true, not-false}
 use Rattle.format.specs.Format.Laws.{record_short, record_wrong, record_right}
 use Rattle.format.specs.Whole.{whole}
 use Prim.Native.Nat.{◌+◌}
@@ -25,7 +25,7 @@ returns-2 c =
       rw (← u16-at.ensures.0, ← u16-at2.ensures.0)
           (sym
           (record_wrong args.bytes.now args.at u16-at.result u16-at2.result (omega arith)
-          (sym c.before.payload-fits.ensures ∙ not_true _ c.if2.true))),
+          (sym c.before.payload-fits.ensures ∙ not-true _ c.if2.true))),
       tt,
     )
 
@@ -35,7 +35,7 @@ read-payload-requires c κs =
     let u16-at = c.before.before.before.before.u16-at in
     let u16-at2 = c.before.before.before.u16-at2 in
     whole args.bytes.now u16-at2.result (args.at + 4) u16-at.result
-    (sym c.before.payload-fits.ensures ∙ not_false _ c.if2.false) (omega arith)
+    (sym c.before.payload-fits.ensures ∙ not-false _ c.if2.false) (omega arith)
 
 returns-3 : tie.Need-returns-3
 returns-3 c =
@@ -47,7 +47,7 @@ returns-3 c =
       rw (← u16-at.ensures.0, ← u16-at2.ensures.0)
           (c.read-payload.ensures.0 ∙ sym
           (record_right args.bytes.now args.at u16-at.result u16-at2.result (omega arith)
-          (sym payload-fits.ensures ∙ not_false _ c.before.if2.false))),
+          (sym payload-fits.ensures ∙ not-false _ c.before.if2.false))),
       c.read-payload.ensures.1,
     )
 

@@ -3,7 +3,7 @@ use borrow.Author.Rules.{rules}
 use native.Mathlib.Omega.{arith}
 use mathlib.Core.Path.{refl}
 use Prim.Native.Nat.{◌-◌}
-use borrow.Author.Tests.{not_true, not_false}
+use borrow.Author.Tests.{not-true, not-false}
 use lib.ListN.{length}
 use Rattle.replies.specs.Replies.{Lent, lent}
 use Rattle.steps.specs.Steps.Laws.{step_forward}
@@ -53,7 +53,7 @@ returns c =
     let agrees = c.before.agrees in
     let loop = c.before.before.before.before.before.before.before.before.before.before.before.before.before.loop in
     let at-run-step = c.before.before.before.before.before.before.before in
-    told_not loop.invariant (rw ran.given.1 at (stepped at-run-step)) (denied agrees.result (not_true _ c.if1.true) agrees.ensures)
+    told_not loop.invariant (rw ran.given.1 at (stepped at-run-step)) (denied agrees.result (not-true _ c.if1.true) agrees.ensures)
 
 add-told : tie.Need-overflow-add-told invariant-loop decreases-loop
 add-told c =
@@ -63,7 +63,7 @@ add-told c =
     let good = back.before.before.before.before.before.before.before.before.before.well-formed in
     let loop = back.before.loop in
     let at-run-step = c.before.before.before.before.before.before.before in
-    let same = affirmed agrees.result (not_false _ c.if1.false) agrees.ensures in
+    let same = affirmed agrees.result (not-false _ c.if1.false) agrees.ensures in
     omega (arith, good.1.0, told_within loop.invariant (rw ran.given.1 at (stepped at-run-step)) same)
 
 loop-less : tie.Need-loop-smaller invariant-loop decreases-loop
@@ -82,7 +82,7 @@ loop-again c =
     let agrees = c.before.agrees in
     let loop = c.before.before.before.before.before.before.before.before.before.before.before.before.before.loop in
     let at-run-step = c.before.before.before.before.before.before.before in
-    let same = affirmed agrees.result (not_false _ c.if1.false) agrees.ensures in
+    let same = affirmed agrees.result (not-false _ c.if1.false) agrees.ensures in
     told_next loop.invariant (rw ran.given.1 at (stepped at-run-step)) same ran.given.0.1.0 refl
 
 agrees-requires-2 : tie.Need-agrees-requires-2 invariant-loop decreases-loop
@@ -98,7 +98,7 @@ returns-2 c =
     let agrees = c.before.agrees2 in
     let loop = c.before.before.before.before.before.before.before.before.before.before.before.before.before.loop in
     let at-run-step = c.before.before.before.before.before.before.before in
-    told_not loop.invariant (rw ran.given.1 at (stepped at-run-step)) (denied agrees.result (not_true _ c.if2.true) agrees.ensures)
+    told_not loop.invariant (rw ran.given.1 at (stepped at-run-step)) (denied agrees.result (not-true _ c.if2.true) agrees.ensures)
 
 add-agrees-last : tie.Need-overflow-add-agrees-last invariant-loop decreases-loop
 add-agrees-last c =
@@ -109,7 +109,7 @@ add-agrees-last c =
     let good = back.before.before.before.before.before.before.before.before.before.before.before.well-formed in
     let loop = back.before.before.before.loop in
     let at-run-step = c.before.before.before.before.before.before.before.before.before in
-    let same = affirmed agrees.result (not_false _ if2.false) agrees.ensures in
+    let same = affirmed agrees.result (not-false _ if2.false) agrees.ensures in
     omega (arith, good.1.0, told_within loop.invariant (rw ran.given.1 at (stepped at-run-step)) same)
 
 agrees-last-requires : tie.Need-agrees-last-requires invariant-loop decreases-loop
@@ -119,7 +119,7 @@ agrees-last-requires c κs =
     let if2 = c.before.before.if2 in
     let loop = c.before.before.before.before.before.before.before.before.before.before.before.before.before.before.before.loop in
     let at-run-step = c.before.before.before.before.before.before.before.before.before in
-    let same = affirmed agrees.result (not_false _ if2.false) agrees.ensures in
+    let same = affirmed agrees.result (not-false _ if2.false) agrees.ensures in
     told_within loop.invariant (rw ran.given.1 at (stepped at-run-step)) same
 
 returns-3 : tie.Need-returns-3 invariant-loop decreases-loop
@@ -131,7 +131,7 @@ returns-3 c =
     let args = back.before.before.before.before.before.before.before.before.before.before.before.before.args in
     let loop = back.before.before.before.before.loop in
     let at-run-step = c.before.before.before.before.before.before.before.before.before.before in
-    let same = affirmed agrees.result (not_false _ if2.false) agrees.ensures in
+    let same = affirmed agrees.result (not-false _ if2.false) agrees.ensures in
     told_all args.script.now args.answer.now _ c.agrees-last.result
     (told_over loop.invariant (rw ran.given.1 at (stepped at-run-step)) same refl) c.agrees-last.ensures
 

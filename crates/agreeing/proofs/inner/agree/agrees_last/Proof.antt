@@ -1,7 +1,7 @@
 -- The end line is laid out and compared, and nothing is left after it.
 use borrow.Author.Rules.{rules}
 use native.Mathlib.Omega.{arith}
-use borrow.Author.Tests.{not_true, not_false}
+use borrow.Author.Tests.{not-true, not-false}
 use Rattle.lines.specs.Lines.{end_line}
 use Rattle.lines.specs.Laid.Laws.{wrote_length}
 use Rattle.agreeing.specs.Agreeing.{affirmed, denied, last_not, last_same, last_longer}
@@ -21,7 +21,7 @@ returns c =
     let lay-end = c.before.before.before.before.lay-end in
     let agrees = c.before.agrees in
     last_not args.answer.now args.at pre (end_line args.store.now) args.out.now lay-end.result lay-end.new.0
-    lay-end.ensures (denied agrees.result (not_true _ c.if1.true) agrees.ensures)
+    lay-end.ensures (denied agrees.result (not-true _ c.if1.true) agrees.ensures)
 
 returns-2 : tie.Need-returns-2
 returns-2 c =
@@ -30,7 +30,7 @@ returns-2 c =
     let lay-end = c.before.before.before.before.before.lay-end in
     let agrees = c.before.before.agrees in
     last_same args.answer.now args.at pre (end_line args.store.now) args.out.now lay-end.result lay-end.new.0
-    lay-end.ensures (affirmed agrees.result (not_false _ c.before.if1.false) agrees.ensures) (omega (arith, c.if2.true, pre))
+    lay-end.ensures (affirmed agrees.result (not-false _ c.before.if1.false) agrees.ensures) (omega (arith, c.if2.true, pre))
 
 returns-3 : tie.Need-returns-3
 returns-3 c =

@@ -5,7 +5,7 @@ use mathlib.Core.Bool.{true}
 use Prim.Native.Nat.{ℕ, ◌<◌, ◌≤◌, ◌-◌}
 use native.Mathlib.Omega.{arith}
 use borrow.Author.Count.{below_more}
-use borrow.Author.Tests.{not_true, not_false}
+use borrow.Author.Tests.{not-true, not-false}
 use Rattle.sets.specs.Layout.{config_count}
 use Rattle.deciding.specs.Stops.{Stop, stopped_all, stopped_not}
 use Rattle.deciding.proofs.inner.verdict.all_stopped.Statement.{statement}
@@ -37,7 +37,7 @@ returns c =
     let loop = c.before.before.before.loop in
     let loop-test = c.before.before.loop-test in
     let stops-too = c.before.stops-too in
-    sym (stopped_not args.stops.now args.set.now loop.place (omega (arith, loop-test.true, config-count.ensures)) (sym stops-too.ensures ∙ not_true _ c.if1.true))
+    sym (stopped_not args.stops.now args.set.now loop.place (omega (arith, loop-test.true, config-count.ensures)) (sym stops-too.ensures ∙ not-true _ c.if1.true))
 
 add-place : tie.Need-overflow-add-place invariant-loop decreases-loop
 add-place c =
@@ -57,7 +57,7 @@ loop-again c =
     let loop = c.before.before.before.loop in
     let loop-test = c.before.before.loop-test in
     let stops-too = c.before.stops-too in
-    (omega (arith, loop-test.true, config-count.ensures), below_more _ _ loop.invariant.1 (sym stops-too.ensures ∙ not_false _ c.if1.false))
+    (omega (arith, loop-test.true, config-count.ensures), below_more _ _ loop.invariant.1 (sym stops-too.ensures ∙ not-false _ c.if1.false))
 
 returns-2 : tie.Need-returns-2 invariant-loop decreases-loop
 returns-2 c =

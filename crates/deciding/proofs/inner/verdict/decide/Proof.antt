@@ -1,7 +1,7 @@
 -- Each way out is one of the verdict's cases.
 use borrow.Author.Rules.{rules}
 use mathlib.Core.Path.{sym, ◌∙◌}
-use borrow.Author.Tests.{not_true, not_false}
+use borrow.Author.Tests.{not-true, not-false}
 use Rattle.deciding.specs.Stops.{verdict_stopped, verdict_plain, verdict_states}
 use Rattle.deciding.proofs.inner.verdict.decide.Statement.{statement}
 use Rattle.deciding.proofs.inner.verdict.decide.Tie as tie
@@ -18,7 +18,7 @@ returns-2 c =
     let args = c.before.before.before.before.before.before.before.before.before.before.before.before.args in
     let if1 = c.before.before.before.before.before.before.before.if1 in
     let lead-all = c.before.before.before.before.before.lead-all in
-    (sym (verdict_plain args.stops.now args.set.now (sym all-stopped.ensures ∙ if1.false) (sym c.before.clashes.ensures ∙ not_true _ c.if2.true)), lead-all.ensures.0.words)
+    (sym (verdict_plain args.stops.now args.set.now (sym all-stopped.ensures ∙ if1.false) (sym c.before.clashes.ensures ∙ not-true _ c.if2.true)), lead-all.ensures.0.words)
 
 returns-3 : tie.Need-returns-3
 returns-3 c =
@@ -28,7 +28,7 @@ returns-3 c =
     let each-picked = c.before.before.each-picked in
     let if1 = c.before.before.before.before.before.before.before.before.before.before.before.if1 in
     let if2 = c.before.before.before.before.if2 in
-    let e = verdict_states args.stops.now args.set.now (sym all-stopped.ensures ∙ if1.false) (sym clashes.ensures ∙ not_false _ if2.false) in
+    let e = verdict_states args.stops.now args.set.now (sym all-stopped.ensures ∙ if1.false) (sym clashes.ensures ∙ not-false _ if2.false) in
     (each-picked.ensures.0 ∙ sym e, each-picked.ensures.1)
 
 pub decide-spec : {M : Type 1} → statement M

@@ -5,7 +5,7 @@ use mathlib.Core.Bool.{true, false}
 use Prim.Native.Nat.{ℕ}
 use lib.ListN.{length}
 use borrow.Author.Rules.{rules}
-use borrow.Author.Tests.{not_true, not_false}
+use borrow.Author.Tests.{not-true, not-false}
 use Rattle.interning.specs.Live.{live_length}
 use Rattle.interning.specs.Interned.{More}
 use Rattle.interning.specs.declared.single.Numbered.TheVariants.{Number, Refused}
@@ -52,7 +52,7 @@ merge_same_length_2 t c =
     let p1 = c.before.before.before in
     let count-merge = p1.count-merge in
     let args = p1.before.before.before.before.before.before.before.before.before.before.before.args in
-    let over : Counts args.scratch.now false count-merge.new.0 = rw (not_true count-merge.result if2.true) at count-merge.ensures in
+    let over : Counts args.scratch.now false count-merge.new.0 = rw (not-true count-merge.result if2.true) at count-merge.ensures in
     ap length over.1
 
 pub merge_returns_3 : Merge merge-lts.Need-returns-3
@@ -68,7 +68,7 @@ merge_returns_3 t c =
     let pre = p3.requires in
     let args = p3.args in
     too_much_lem pre.1 if1.false args.root-is-wildcard cached.result cached.ensures enum_told.given.1 count-merge.new.0
-    (rw (not_true count-merge.result if2.true) at count-merge.ensures)
+    (rw (not-true count-merge.result if2.true) at count-merge.ensures)
 
 is_counted : Merge (λ p q v. (c : merge-lts.Else2 p q v) →
     let p1 = c.before.before.before in
@@ -78,7 +78,7 @@ is_counted : Merge (λ p q v. (c : merge-lts.Else2 p q v) →
 is_counted t c =
     let if2 = c.if2 in
     let count-merge = c.before.before.before.count-merge in
-    rw (not_false count-merge.result if2.false) at count-merge.ensures
+    rw (not-false count-merge.result if2.false) at count-merge.ensures
 
 pub merge_remember_requires : Merge merge-lts.Need-remember-requires
 merge_remember_requires t c κs =

@@ -3,7 +3,7 @@ use borrow.Author.Rules.{rules}
 use native.Mathlib.Omega.{arith}
 use mathlib.Core.Path.{◌≡◌, sym, ◌∙◌}
 use Prim.Native.Nat.{◌-◌, ◌≤◌}
-use borrow.Author.Tests.{not_true, not_false}
+use borrow.Author.Tests.{not-true, not-false}
 use native.Mathlib.Numerals.{add-one}
 use Rattle.setcheck.specs.Configs.{config_of}
 use Rattle.setcheck.specs.Judged.{Gathered, gathered_none, gathered_next}
@@ -38,14 +38,14 @@ same_length : tie.Need-same-length invariant-loop decreases-loop
 same_length c =
     let check-config = c.before.before.before.check-config in
     let pre = c.before.before.before.before.before.before.before.before.before.before.requires in
-    (rw (not_true check-config.result c.if1.true) at check-config.ensures).1 ∙ sym pre.0.lent
+    (rw (not-true check-config.result c.if1.true) at check-config.ensures).1 ∙ sym pre.0.lent
 
 returns : tie.Need-returns invariant-loop decreases-loop
 returns c =
     let check-config = c.before.before.before.check-config in
     let loop = c.before.before.before.before.before.before.before.loop in
     let loop-test = c.before.before.before.before.before.before.loop-test in
-    let bad = rw (not_true check-config.result c.if1.true) at check-config.ensures in
+    let bad = rw (not-true check-config.result c.if1.true) at check-config.ensures in
     (λ all. bad.0 (all loop.place loop-test.true), bad.1)
 
 add-place : tie.Need-overflow-add-place invariant-loop decreases-loop
@@ -65,7 +65,7 @@ loop-again c =
     let loop = c.before.before.before.before.before.before.before.before.loop in
     let config-at = c.before.before.before.before.before.before.config-at in
     let loop-test = c.before.before.before.before.before.before.before.loop-test in
-    let good = rw (not_false check-config.result c.before.if1.false) at check-config.ensures in
+    let good = rw (not-false check-config.result c.before.if1.false) at check-config.ensures in
     rw (add-one loop.place, c.joined-flags.ensures)
     (gathered_next loop.invariant.0 check-config.new.1.0 good (config_of config-at.result) config-at.ensures, loop-test.true)
 

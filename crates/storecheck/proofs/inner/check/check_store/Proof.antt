@@ -2,7 +2,7 @@
 use borrow.Author.Rules.{rules}
 use native.Mathlib.Omega.{arith}
 use mathlib.Core.Path.{◌≡◌, sym, ◌∙◌}
-use borrow.Author.Tests.{not_true, not_false}
+use borrow.Author.Tests.{not-true, not-false}
 use Rattle.recordcheck.specs.declared.inner.check.Checked.TheVariants.{Good, Bad}
 use Rattle.layout.specs.Layout.{count}
 use Rattle.recordcheck.specs.Check.{Passed}
@@ -29,13 +29,13 @@ returns-3 c =
 returns-4 : tie.Need-returns-4
 returns-4 c =
     let check-root = c.before.before.before.check-root in
-    let bad = rw (not_true check-root.result c.if4.true) at check-root.ensures in
+    let bad = rw (not-true check-root.result c.if4.true) at check-root.ensures in
     (λ v. bad.0 v.root, bad.1)
 
 check-records-requires : tie.Need-check-records-requires
 check-records-requires c κs =
     let check-root = c.before.before.before.before.check-root in
-    let good = rw (not_false check-root.result c.before.if4.false) at check-root.ensures in
+    let good = rw (not-false check-root.result c.before.if4.false) at check-root.ensures in
     (good.1, omega arith, omega arith)
 
 returns-5 : tie.Need-returns-5
@@ -72,7 +72,7 @@ returns-7 c =
     let e : check-records.result ≡ Good checked.given.0.0 = cc in
     let p : Passed args.store.now check-records.new.1.0 count_of.result checked.given.0.0 = rw e at check-records.ensures in
     let q : Passed args.store.now check-records.new.1.0 (count args.store.now) checked.given.0.0 = rw count_of.ensures at p in
-    let root = rw (not_false check-root.result if4.false) at check-root.ensures in
+    let root = rw (not-false check-root.result if4.false) at check-root.ensures in
     judged_if args.store.now check-records.new.1.0 c.unused-zero.result
     (λ t. ready args.store.now check-records.new.1.0 checked.given.0.0 pre.0
     (omega (arith, count_of.ensures), omega (arith, count_of.ensures), omega (arith, used-of.ensures)) root.0 q

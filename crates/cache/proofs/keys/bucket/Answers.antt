@@ -1,0 +1,11 @@
+-- The bucket is a remainder.
+use borrow.Author.Rules.{rules}
+use mathlib.Core.Path.{refl}
+use native.Mathlib.Omega.{arith}
+use Rattle.cache.specs.Cache.{bucket_of}
+use Rattle.cache.proofs.keys.bucket.Goals as goal
+
+pub returns : goal.returns
+unfolding bucket_of
+returns c = (refl, omega arith)
+

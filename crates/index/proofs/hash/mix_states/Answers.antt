@@ -1,0 +1,27 @@
+-- The hash goes on from what is done to what is left: a turn takes one entry more, by `states_turn`.
+use borrow.Author.Rules.{rules}
+use native.Mathlib.Omega.{arith}
+use mathlib.Core.Path.{◌≡◌, sym, ap, ◌∙◌}
+use Prim.Native.Nat.{◌+◌, ◌-◌, ◌≤◌}
+use Rattle.words.specs.Hash.{hash_from}
+use Rattle.index.specs.Hash.{state_words}
+use Rattle.index.specs.Records.{stack_node}
+use Rattle.index.specs.Walk.{states_turn, states_end, walk_start}
+use Rattle.index.proofs.hash.mix_states.Goals as goal
+
+pub loop-i-preserved : goal.loop-i-preserved
+loop-i-preserved c =
+    let args = c.args in
+    let pre = c.requires in
+    let loop = c.loop-i in (
+      omega arith,
+      loop.invariant.1 ∙ states_turn (λ x. x) args.scratch.now args.at args.n 512 loop.i pre (omega arith) loop.hash ∙
+          rw (c.mix-hash.ensures, c.stack_state-state.ensures),
+    )
+
+
+pub returns : goal.returns
+returns c =
+    let args = c.args in
+    sym (c.loop-i.invariant.1 ∙ states_end args.scratch.now args.at args.n c.loop-i.i c.loop-i.hash (omega arith))
+

@@ -1,0 +1,10 @@
+-- `high_of` reads `high`, by computation.
+use borrow.Author.Rules.{rules}
+use mathlib.Core.Path.{refl}
+use Rattle.layout.specs.Scratch.{high}
+use Rattle.index.proofs.reads.high_of.Goals as goal
+
+pub returns : goal.returns
+unfolding high
+returns c = refl
+

@@ -1,0 +1,10 @@
+-- `low_of` reads `low`, by computation.
+use borrow.Author.Rules.{rules}
+use mathlib.Core.Path.{refl}
+use Rattle.layout.specs.Scratch.{low}
+use Rattle.index.proofs.reads.low_of.Goals as goal
+
+pub returns : goal.returns
+unfolding low
+returns c = refl
+

@@ -1,0 +1,19 @@
+-- Up to i the entries are sound; the first that is not says no.
+use borrow.Author.Rules.{rules}
+use native.Mathlib.Omega.{arith}
+use Prim.Native.Nat.{ℕ, ◌+◌, ◌-◌, ◌<◌, ◌≤◌}
+use borrow.Author.Tests.{not-true, not-false}
+use borrow.Author.Count.{below_more}
+use Rattle.layout.specs.Layout.{parent, state}
+use Rattle.recordcheck.specs.Check.{EntryAt}
+use Rattle.recordcheck.specs.Judge.{entries_of, entry_of}
+use Rattle.recordcheck.proofs.inner.check.entries_sound.Goals as goal
+
+pub returns : goal.returns
+unfolding state
+returns c =
+    let args = c.args in
+    entries_of (state args.store.now) (parent args.store.now) args.from args.n args.context
+    (λ j. omega (arith, c.shared_slice_known-1.given (3586 + j)))
+    (λ j h. c.loop-i.invariant.1 j (omega arith))
+

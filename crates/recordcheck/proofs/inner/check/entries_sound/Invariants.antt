@@ -1,0 +1,18 @@
+-- Up to i the entries are sound; the first that is not says no.
+use borrow.Author.Rules.{rules}
+use native.Mathlib.Omega.{arith}
+use Prim.Native.Nat.{ℕ, ◌+◌, ◌-◌, ◌<◌, ◌≤◌}
+use borrow.Author.Tests.{not-true, not-false}
+use borrow.Author.Count.{below_more}
+use Rattle.layout.specs.Layout.{parent, state}
+use Rattle.recordcheck.specs.Check.{EntryAt}
+use Rattle.recordcheck.specs.Judge.{entries_of, entry_of}
+use Rattle.recordcheck.proofs.inner.check.entries_sound.Given as goal
+
+abbrev pub invariant-loop-i : goal.invariant-loop-i
+invariant-loop-i l = (l.i ≤ l.n) × ((j : ℕ) → j < l.i → EntryAt (state l.store) (parent l.store) l.from (l.from + j) l.context)
+
+
+abbrev pub decreases-loop-i : goal.decreases-loop-i
+decreases-loop-i l = l.n - l.i
+
