@@ -61,6 +61,7 @@ module _ {ℓ} {A : Type ℓ} (refuse : ℕ → A) (go : A) where
       bool? (eqb c.number n)
       (λ e. unless_first c (cs ++ more) (here n c cs e d) ∙ ap refuse (eqb-true c.number n e))
       (λ e. let r = later n c cs e d in unless_next c (cs ++ more) r.0 ∙ due_given n cs more r.1)
+  due_given n [] more d = elim d [ ]
 
   -- what is left where n is due
   pub due_leaves : (n : ℕ) (cs : List Check) → due cs ≡ at n → unless cs refuse go ≡ refuse n

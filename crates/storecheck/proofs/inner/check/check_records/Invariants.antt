@@ -1,0 +1,17 @@
+-- The records up to `context` have passed; the first that does not ends the check.
+use borrow.Author.Rules.{rules}
+use native.Mathlib.Omega.{arith}
+use mathlib.Core.Path.{◌≡◌}
+use Prim.Native.Nat.{◌-◌, ◌≤◌}
+use native.Mathlib.Numerals.{add-one}
+use Rattle.recordcheck.specs.declared.inner.check.Checked.TheVariants.{Good, Bad}
+use Rattle.recordcheck.specs.Check.{Passed}
+use Rattle.storecheck.proofs.inner.check.check_records.Given as goal
+
+abbrev pub invariant-loop-context : goal.invariant-loop-context
+invariant-loop-context l = Passed l.store l.scratch l.context l.pool × (l.context ≤ l.count)
+
+
+abbrev pub decreases-loop-context : goal.decreases-loop-context
+decreases-loop-context l = l.count - l.context
+
