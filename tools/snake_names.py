@@ -68,6 +68,7 @@ def declared(text):
         found = INNER.match(line)
         if found and re.search(rf"^ +{re.escape(found.group(1))}(?: [^=\n]*)? =", text, re.M):
             tops.add(found.group(1))
+            members.add(found.group(1))
     return tops, members
 
 

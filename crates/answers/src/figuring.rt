@@ -13,7 +13,7 @@ use figures::Told;
 // A refusal's number, 0 where there is none; then the number of subsets, 1 and the unique alternative or 0
 // where there is none, the same of the viable one, and 1 for yes as the verdict.
 #[repr(C)]
-#[derive(Drop)]
+#[derive(Clone, Copy)]
 pub struct FiguresAnswer {
     pub refusal: u32,
     pub subsets: u32,

@@ -8,7 +8,7 @@ use reasons::Reason;
 // A refusal's number, 0 where there is none; then which reason, 1 to 4 in the order in which they are tried, and what it
 // names of a state, its one alternative, and the context of a clash, 0 where it names none.
 #[repr(C)]
-#[derive(Drop)]
+#[derive(Clone, Copy)]
 pub struct ReasonAnswer {
     pub refusal: u32,
     pub reason: u32,

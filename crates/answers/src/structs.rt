@@ -7,7 +7,7 @@ use words::Refusal;
 
 // A refusal's number, 0 where there is none; then the value.
 #[repr(C)]
-#[derive(Drop)]
+#[derive(Clone, Copy)]
 pub struct Answer {
     pub refusal: u32,
     pub value: u32,
@@ -15,7 +15,7 @@ pub struct Answer {
 
 // A refusal's number, 0 where there is none; then 1 and the value, or 0 where there is no entry.
 #[repr(C)]
-#[derive(Drop)]
+#[derive(Clone, Copy)]
 pub struct EntryAnswer {
     pub refusal: u32,
     pub found: u32,
@@ -24,7 +24,7 @@ pub struct EntryAnswer {
 
 // A refusal's number, 0 where there is none; then the value, how many merges were counted, and how many contexts made.
 #[repr(C)]
-#[derive(Drop)]
+#[derive(Clone, Copy)]
 pub struct CountedAnswer {
     pub refusal: u32,
     pub value: u32,

@@ -9,7 +9,7 @@ use crate::places::{HEADS, LINKS, RESULTS};
 use words::ContextId;
 
 // What the cache knows of a merge.
-#[derive(Drop)]
+#[derive(Clone, Copy)]
 pub enum Recall {
     As(ContextId),
     Unknown,

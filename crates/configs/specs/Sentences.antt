@@ -93,7 +93,7 @@ module _ (w v z : List ℕ) (x : Config) (a : ℕ) (w' v' : List ℕ) (ok : Adds
   is_set = sym ok.2 ∙ ap (λ (l : SetLeft). l.set) outcome
 
   good : good_set (contexts w) (set_of v) ≡ true
-  good = sound_good (contexts w) v lent.set-sound
+  good = sound_good (contexts w) v lent.set_sound
 
   little : too_much (add_work (store_of w) (set_of v) x) ≡ false
   unfolding add_checks lent_checks
@@ -128,7 +128,7 @@ module _ (w v z : List ℕ) (x : Config) (a : ℕ) (w' v' : List ℕ) (ok : Adds
     -- nothing was merged: the store is as it was
     pub inserted_store : w' ≡ w
     inserted_store =
-        is_store ∙ ap (λ (A : Addition). words_of A.store) insertion ∙ sym (decoded w lent.store_length lent.store-sound).1
+        is_store ∙ ap (λ (A : Addition). words_of A.store) insertion ∙ sym (decoded w lent.store_length lent.store_sound).1
 
     inserted_configs : configs_in v' (suc (config_count v)) ≡ configs_in v (config_count v) ++ (x ∷ [])
     inserted_configs =
@@ -163,7 +163,7 @@ module _ (w v z : List ℕ) (x : Config) (a : ℕ) (w' v' : List ℕ) (ok : Adds
 
     joining : after ≡ record { answer = 0; store = (merged_to w v x i).1; set = with_configs (set_of v) (joined_all x (merged_to w v x i).0 (set_of v).configs) }
     unfolding after merged_to
-    joining = add_joined (store_of w) (set_of v) x (config_at v i).context (held_here lent.set-sound x i here same_key)
+    joining = add_joined (store_of w) (set_of v) x (config_at v i).context (held_here lent.set_sound x i here same_key)
 
     pub merged_answer : a ≡ 0
     merged_answer = is_answer ∙ ap (λ (A : Addition). A.answer) joining
@@ -197,7 +197,7 @@ module _ (w v z : List ℕ) (x : Config) (a : ℕ) (w' v' : List ℕ) (ok : Adds
     merged_mark = ap (λ (y : Config). mark_of y.provenance) config_now ∙ mark_of_merged (config_at v i).provenance x.provenance
 
     pub merged_others : (j : ℕ) → j < config_count v → j ≢ i → config_at v' j ≡ config_at v j
-    merged_others j l d = at_place j l ∙ joined_other x (merged_to w v x i).0 (config_at v j) (only_key lent.set-sound x i here same_key j l d)
+    merged_others j l d = at_place j l ∙ joined_other x (merged_to w v x i).0 (config_at v j) (only_key lent.set_sound x i here same_key j l d)
 
     -- the store after is the merge's, and so is the config's context
     pub merged_call : merge_call w z (config_at v i).context x.context (not (flag 1 v))
@@ -205,12 +205,12 @@ module _ (w v z : List ℕ) (x : Config) (a : ℕ) (w' v' : List ℕ) (ok : Adds
     unfolding merged_to joined merged_known
     merged_call =
         let l = lent in
-        let work = work_joined (store_of w) (set_of v) x (config_at v i).context (held_here lent.set-sound x i here same_key) in
+        let work = work_joined (store_of w) (set_of v) x (config_at v i).context (held_here lent.set_sound x i here same_key) in
         let c : (config_at v' i).context ≡ (merged_to w v x i).0 = ap (λ (y : Config). y.context) config_now in
         let s : w' ≡ words_of (merged_to w v x i).1 = is_store ∙ ap (λ (A : Addition). words_of A.store) joining in
         merge_nested w z (config_at v i).context x.context (not (flag 1 v))
-        ∙ sound_goes w z _ l.store_length l.scratch-length l.store-sound
-        ∙ known_goes w (config_at v i).context _ (l.set-sound.known i here)
+        ∙ sound_goes w z _ l.store_length l.scratch_length l.store_sound
+        ∙ known_goes w (config_at v i).context _ (l.set_sound.known i here)
         ∙ known_goes w x.context _ context_known
         ∙ made_is w (counting (not (flag 1 v)) (store_of w) (config_at v i).context x.context) (merged_to w v x i)
         (rw work at little) (not-false _ (rw joining at there_is_room))
@@ -230,12 +230,12 @@ module _ (w v z : List ℕ) (x : Config) (a : ℕ) (w' v' : List ℕ) (ok : Adds
     grows : contexts w ≤ contexts w'
     unfolding merged_to
     grows =
-        let g = (decoded w lent.store_length lent.store-sound).0 in
+        let g = (decoded w lent.store_length lent.store_sound).0 in
         let s = store_after w z (config_at v i).context x.context (not (flag 1 v)) (config_at v' i).context w' merged_accepted in
         let n = store_length w (contexts w) in
         let l =
         grew_length (store_of w) _
-        (merge_grew (not (flag 1 v)) (store_of w) g.sound (config_at v i).context x.context (rw n (lent.set-sound.known i here)) (rw n context_known)) in
+        (merge_grew (not (flag 1 v)) (store_of w) g.sound (config_at v i).context x.context (rw n (lent.set_sound.known i here)) (rw n context_known)) in
         omega (arith, n, store_length w' (contexts w'), ap length s)
 
     merged_sound : (sound w' ≡ true) × SoundSet (contexts w') v'
@@ -266,7 +266,7 @@ module _ (w v z : List ℕ) (x : Config) (a : ℕ) (w' v' : List ℕ) (ok : Adds
   pub sound_after : (sound w' ≡ true) × SoundSet (contexts w') v'
   sound_after =
       key? merged_sound
-      (λ n. (subst (λ (u : List ℕ). sound u ≡ true) (sym (inserted_store n)) (true_sound w lent.store_length lent.store-sound), inserted_sound n))
+      (λ n. (subst (λ (u : List ℕ). sound u ≡ true) (sym (inserted_store n)) (true_sound w lent.store_length lent.store_sound), inserted_sound n))
 
   -- the contexts that there are more than before
   pub added_grows : contexts w + (add_call w v z x).made ≡ contexts w'
@@ -328,7 +328,7 @@ module _ (w v z w' v' : List ℕ) (ok : close_call w v z ≡ set_left done w' v'
 
   closed_good : good_set (contexts w) (closed_set (set_of v)) ≡ true
   unfolding good_set
-  closed_good = sound_good (contexts w) v closed_lent.set-sound
+  closed_good = sound_good (contexts w) v closed_lent.set_sound
 
   closed_held : HeldSet v' (closed_set (set_of v))
   closed_held =
@@ -360,7 +360,7 @@ module _ (w v z w' v' : List ℕ) (ok : close_call w v z ≡ set_left done w' v'
         store_length = closed_lent.store_length;
         set_length = closed_held.sized;
         scratch_length = l;
-        store_sound = closed_lent.store-sound;
+        store_sound = closed_lent.store_sound;
         set_sound = closed_sound;
       }) in
       clear_passed (refusal w v' y) _ (lent_checks (lent_lengths w v' y) w v' []) c

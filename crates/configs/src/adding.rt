@@ -20,7 +20,7 @@ use store::inner::admit::Admitted;
 use words::Refusal;
 
 // What adding a config answers: inserted, or merged, and what was counted.
-#[derive(Drop)]
+#[derive(Clone, Copy)]
 pub enum Added {
     Inserted,
     Merged(Tally),

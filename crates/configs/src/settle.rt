@@ -11,7 +11,7 @@ use store::inner::admit::Admitted;
 use words::Refusal;
 
 // What making or closing a set answers.
-#[derive(Drop)]
+#[derive(Clone, Copy)]
 pub enum Settled {
     Done,
     Refused(Refusal),

@@ -13,14 +13,14 @@ use store::inner::cut::cut_back;
 use words::{ContextId, Refusal};
 
 // How many merges a call counted, and how many contexts it made.
-#[derive(Drop)]
+#[derive(Clone, Copy)]
 pub struct Tally {
     pub merges: u32,
     pub made: u32,
 }
 
 // What a merge answers: the context's number, and what was counted.
-#[derive(Drop)]
+#[derive(Clone, Copy)]
 pub enum Merged {
     Number(ContextId, Tally),
     Refused(Refusal),

@@ -2,7 +2,7 @@
 use words::{CompactState, ContextId};
 
 // A return state, and the context beneath it.
-#[derive(Drop)]
+#[derive(Clone, Copy)]
 pub struct Entry {
     pub parent: ContextId,
     pub state: CompactState,

@@ -3,7 +3,7 @@ use deciding::inner::single::OneAlt;
 use words::Refusal;
 
 // The number of subsets, the alternative of every config, the smallest of every subset, the verdict.
-#[derive(Drop)]
+#[derive(Clone, Copy)]
 pub struct Figures {
     pub subsets: u32,
     pub unique: OneAlt,
@@ -12,7 +12,7 @@ pub struct Figures {
 }
 
 // All of them, or a refusal, which carries its number and nothing else.
-#[derive(Drop)]
+#[derive(Clone, Copy)]
 pub enum Told {
     All(Figures),
     Refused(Refusal),

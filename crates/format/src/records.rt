@@ -16,7 +16,7 @@ const LAST_MODE: u8 = 1;
 
 // A record on the set: a new one, and whether it merges by wildcard; a config to add; a verdict; a
 // set to close; why the verdict is what it is.
-#[derive(Drop)]
+#[derive(Clone, Copy)]
 pub enum SetRecord {
     NewSet(bool),
     Add(AtnConfig),
@@ -27,7 +27,7 @@ pub enum SetRecord {
 
 // A record: a state over a parent; two contexts to merge, and whether by wildcard; a context to
 // show; stop states, by the place of their words and their number; or one on the set.
-#[derive(Drop)]
+#[derive(Clone, Copy)]
 pub enum Record {
     Singleton(ContextId, ReturnState),
     Merge(ContextId, ContextId, bool),
@@ -37,7 +37,7 @@ pub enum Record {
 }
 
 // What stands at a place: a record, with the place of the next one; the end; or what no record is.
-#[derive(Drop)]
+#[derive(Clone, Copy)]
 pub enum Step {
     Found(Record, usize),
     End,

@@ -10,7 +10,7 @@ use libc::STDOUT_FILENO;
 use records::agrees;
 
 // How many records were read, and how many of them differ.
-#[derive(Drop)]
+#[derive(Clone, Copy)]
 struct Tally {
     hashes: u64,
     differences: u64,

@@ -16,7 +16,7 @@ use layout::{first_of, kind_of, pool_parent, pool_state, second_of};
 use words::ContextId;
 
 // Where a list of entries is interned.
-#[derive(Drop)]
+#[derive(Clone, Copy)]
 pub enum Lookup {
     At(ContextId),
     Nowhere,

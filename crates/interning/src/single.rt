@@ -12,7 +12,7 @@ use store::inner::admit::{Admitted, admit};
 use words::{CompactState, Compacted, ContextId, Refusal, ReturnState};
 
 // What a call that may make contexts answers: the context's number, and how many were made.
-#[derive(Drop)]
+#[derive(Clone, Copy)]
 pub enum Numbered {
     Number(ContextId, u32),
     Refused(Refusal),

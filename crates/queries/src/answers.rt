@@ -2,14 +2,14 @@
 use words::{ContextId, Refusal, ReturnState};
 
 // How many.
-#[derive(Drop)]
+#[derive(Clone, Copy)]
 pub enum Counted {
     Count(u32),
     Refused(Refusal),
 }
 
 // Yes or no.
-#[derive(Drop)]
+#[derive(Clone, Copy)]
 pub enum Decided {
     Yes,
     No,
@@ -17,7 +17,7 @@ pub enum Decided {
 }
 
 // The state of an entry, where there is one.
-#[derive(Drop)]
+#[derive(Clone, Copy)]
 pub enum StateFound {
     State(ReturnState),
     Nothing,
@@ -25,7 +25,7 @@ pub enum StateFound {
 }
 
 // The parent of an entry, where there is one.
-#[derive(Drop)]
+#[derive(Clone, Copy)]
 pub enum ParentFound {
     Parent(ContextId),
     Nothing,

@@ -251,7 +251,7 @@ module _ (s : Store) (g : GoodStore s) (S : Set) (good : good_set (length s) S �
 
   fresh_is : (f : Bool) → leaving (settled (fresh_set_call v f).0) w (fresh_set_call v f).1 ≡ words_after (to (plain (of_set Sets.done)) s (empty_set f))
   unfolding fresh_set_call settled unless
-  fresh_is f = rw (eq-eqb (length v) set_words_length lent.set-length, unless)
+  fresh_is f = rw (eq-eqb (length v) set_words_length lent.set_length, unless)
 
   -- ---- the calls on its subsets
 

@@ -3,7 +3,7 @@ use words::{Alternative, ContextId, Refusal};
 
 // Every config has stopped; no subset holds two alternatives; a state has only this alternative; or a clash
 // in the subset of this state and this context.
-#[derive(Drop)]
+#[derive(Clone, Copy)]
 pub enum Reason {
     Stop,
     NoClash,

@@ -5,14 +5,14 @@ ghost use Rattle.replay.specs.Sample.{Differs, PartIs, Tallied};
 use format::inner::bytes::u32_at;
 
 // Where a part starts and ends, or that it is cut short.
-#[derive(Drop)]
+#[derive(Clone, Copy)]
 pub enum Part {
     Found(usize, usize),
     Cut,
 }
 
 // How many scripts there are and how many of them give another answer; or the sample is cut short.
-#[derive(Drop)]
+#[derive(Clone, Copy)]
 pub enum Tally {
     Whole(u64, u64),
     Cut,

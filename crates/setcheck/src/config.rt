@@ -2,7 +2,7 @@
 use words::{Alternative, ContextId, SemanticId};
 
 #[repr(C)]
-#[derive(Drop)]
+#[derive(Clone, Copy)]
 pub struct AtnConfig {
     pub state: u32,
     pub alt: Alternative,

@@ -96,8 +96,8 @@ module _ (w v z : List ℕ) where
   pub lent_clear : SoundLent → Clear (lent_checks (lent_lengths w v z) w v [])
   unfolding lent_checks
   lent_clear l = (
-    ap not (right_lengths (l.store_length, l.set-length, l.scratch-length)),
-    (ap not (true_sound w l.store_length l.store-sound), (ap not (true_sound_set (contexts w) v l.set-length l.set-sound), tt)),
+    ap not (right_lengths (l.store_length, l.set_length, l.scratch_length)),
+    (ap not (true_sound w l.store_length l.store_sound), (ap not (true_sound_set (contexts w) v l.set_length l.set_sound), tt)),
   )
 
 -- ---- for each call: "Given exactly when", in document 01's order, and what is left then

@@ -18,7 +18,7 @@ use words::Refusal;
 pub const MOST_BYTES: usize = 32768;
 
 // A step laid out so many bytes, and the script goes on at a place; or it is over.
-#[derive(Drop)]
+#[derive(Clone, Copy)]
 pub enum Ran {
     Next(usize, usize),
     Over(usize),

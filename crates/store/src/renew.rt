@@ -7,7 +7,7 @@ use layout::STORE_WORDS;
 use words::Refusal;
 
 // What making a store afresh answers.
-#[derive(Drop)]
+#[derive(Clone, Copy)]
 pub enum Renewed {
     Done,
     Refused(Refusal),

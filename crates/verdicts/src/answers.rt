@@ -2,7 +2,7 @@
 use words::{Alternative, Refusal};
 
 // Yes or no.
-#[derive(Drop)]
+#[derive(Clone, Copy)]
 pub enum Decided {
     Yes,
     No,
@@ -10,7 +10,7 @@ pub enum Decided {
 }
 
 // One alternative, or none; alternative 0 is one.
-#[derive(Drop)]
+#[derive(Clone, Copy)]
 pub enum AltFound {
     Only(Alternative),
     Nothing,
@@ -18,7 +18,7 @@ pub enum AltFound {
 }
 
 // Words were written.
-#[derive(Drop)]
+#[derive(Clone, Copy)]
 pub enum Written {
     Done,
     Refused(Refusal),

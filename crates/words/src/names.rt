@@ -5,29 +5,29 @@ ghost use Rattle.words.specs.Compact.{compacted, expanded};
 
 // The number of a context of a store.
 #[repr(C)]
-#[derive(Drop)]
+#[derive(Clone, Copy)]
 pub struct ContextId(pub u32);
 
 // A return state as callers give and get it; the largest u64 is the empty mark.
-#[derive(Drop)]
+#[derive(Clone, Copy)]
 pub struct ReturnState(pub u64);
 
 // The number of an alternative.
 #[repr(C)]
-#[derive(Drop)]
+#[derive(Clone, Copy)]
 pub struct Alternative(pub u32);
 
 // The number of a semantic context; 0 is none.
 #[repr(C)]
-#[derive(Drop)]
+#[derive(Clone, Copy)]
 pub struct SemanticId(pub u32);
 
 // A return state as a store holds it; the largest u32 is the empty mark `$`.
-#[derive(Drop)]
+#[derive(Clone, Copy)]
 pub struct CompactState(pub u32);
 
 // What a border state is: the empty mark, a state that a store can hold, or neither.
-#[derive(Drop)]
+#[derive(Clone, Copy)]
 pub enum Compacted {
     Mark,
     State(CompactState),

@@ -3,7 +3,7 @@ ghost use Rattle.std.specs.Prelude.{◌≡◌};
 ghost use Rattle.words.specs.Refusals.{number};
 
 // Why a call was refused, in the order of checking; room and work, by which is reached first. Document 02's numbers 13 to 15 come here.
-#[derive(Drop)]
+#[derive(Clone, Copy)]
 pub enum Refusal {
     WrongLength,
     UnsoundStore,

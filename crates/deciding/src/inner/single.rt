@@ -13,7 +13,7 @@ use setcheck::inner::read::config_count;
 use words::Alternative;
 
 // One alternative, or none; alternative 0 is one.
-#[derive(Drop)]
+#[derive(Clone, Copy)]
 pub enum OneAlt {
     Only(Alternative),
     Nothing,

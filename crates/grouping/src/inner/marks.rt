@@ -15,7 +15,7 @@ use setcheck::inner::read::config_count;
 use words::Alternative;
 
 // Which configs mark the first one: those with another alternative than it has, or those with this one.
-#[derive(Drop)]
+#[derive(Clone, Copy)]
 pub enum Picks {
     Rivals,
     Holders(Alternative),

@@ -8,7 +8,7 @@ ghost use Rattle.grouping.specs.Alike.{trait_words, traits_by};
 use setcheck::inner::places::{ALTERNATIVE, CONFIG_WORDS, CONTEXT, FIRST_CONFIG, STATE};
 
 // Which of state, context and alternative configs must share to be alike.
-#[derive(Drop)]
+#[derive(Clone, Copy)]
 pub enum Alike {
     State,
     Place,
@@ -17,7 +17,7 @@ pub enum Alike {
 }
 
 // State, context and alternative; 0 stands for what is left out.
-#[derive(Drop)]
+#[derive(Clone, Copy)]
 pub struct Traits(pub u32, pub u32, pub u32);
 
 // The alternative of a config.

@@ -11,7 +11,7 @@ use layout::{MOST_CONTEXTS, MOST_ENTRIES, put_counts, put_record};
 use words::{COMPACT_EMPTY_RETURN_STATE, ContextId};
 
 // What interning answers: a context that was there, one that was made, or no room for one more.
-#[derive(Drop)]
+#[derive(Clone, Copy)]
 pub enum Interned {
     Found(ContextId),
     Made(ContextId),

@@ -9,7 +9,7 @@ use layout::MOST_ENTRIES;
 use words::COMPACT_EMPTY_RETURN_STATE;
 
 // What a record is: sound, with so many pool entries in use after it, or not sound.
-#[derive(Drop)]
+#[derive(Clone, Copy)]
 pub enum Checked {
     Good(usize),
     Bad,

@@ -15,7 +15,7 @@ use crate::inner::places::{
 use crate::inner::read::{config_at, config_count, flag_word};
 
 // The flags that the configs ask for, or a config that is not sound.
-#[derive(Drop)]
+#[derive(Clone, Copy)]
 pub enum Checked {
     Flags(u32),
     Bad,

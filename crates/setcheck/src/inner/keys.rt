@@ -13,7 +13,7 @@ use crate::inner::places::{KEY_HEADS, KEY_LINKS};
 use crate::inner::read::config_at;
 
 // Where a set has a key.
-#[derive(Drop)]
+#[derive(Clone, Copy)]
 pub enum KeyPlace {
     At(usize),
     New,

@@ -6,7 +6,7 @@ use storecheck::inner::check::check_store;
 use words::{ContextId, Refusal};
 
 // The store is ready for the call, or the call is refused.
-#[derive(Drop)]
+#[derive(Clone, Copy)]
 pub enum Admitted {
     Ready,
     Refused(Refusal),

@@ -67,7 +67,7 @@ returns c =
     let p2 = p1.before.before.before.before in
     let merged = p2.merged in
     let p3 = p2.before.before.before.before.before.before in
-    let merge_known = p3.merge-known in
+    let merge_known = p3.merge_known in
     let p4 = p3.before.before.before in
     let has-flag = p4.has-flag in
     let config-at = p4.before.before.config-at in
@@ -90,7 +90,7 @@ unfolding merged_known
 returns-2 c =
     let merged2 = c.before.merged2 in
     let p1 = c.before.before.before.before.before.before.before in
-    let merge_known = p1.merge-known in
+    let merge_known = p1.merge_known in
     let p2 = p1.before.before.before in
     let has-flag = p2.has-flag in
     let config-at = p2.before.before.config-at in

@@ -54,7 +54,7 @@ merge-known-requires c κs =
 returns-3 : tie.Need-returns-3
 returns-3 c =
     let p1 = c.before.before.before.before in
-    let merge_known = p1.merge-known in
+    let merge_known = p1.merge_known in
     let p2 = p1.before.before.before in
     let if1 = p2.if1 in
     let count_of = p2.before.before.count_of in

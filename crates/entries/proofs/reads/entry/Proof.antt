@@ -77,9 +77,9 @@ pool-state-requires c κs =
 
 returns-3 : tie.Need-returns-3
 returns-3 c =
-    let pool_state = c.pool-state in
+    let pool_state = c.pool_state in
     let if2 = c.before.before.if2 in
-    let pool_parent = c.before.pool-parent in
+    let pool_parent = c.before.pool_parent in
     let first_of = c.before.before.before.first_of in
     let if1 = c.before.before.before.before.if1 in
     let kind-of = c.before.before.before.before.before.kind-of in

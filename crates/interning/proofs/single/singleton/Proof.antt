@@ -56,7 +56,7 @@ returns-4 c =
     let enum_told = c.before.before.before.before.before.before.before.before.before.before.before.enum_told in
     let compact = c.before.before.before.before.before.before.before.before.before.before.compact in
     let compact2 = c.before.before.before.before.before.before.before.before.compact2 in
-    let place_single = c.before.before.before.before.place-single in
+    let place_single = c.before.before.before.before.place_single in
     let e : compact.result ≡ State compact2.given.0.0 = cc in
     let m = sym compact.ensures ∙ e in
     singleton_placed args.store.now args.scratch.now at-admit.new.1.0 args.parent.0 args.state.0 at-admit.result

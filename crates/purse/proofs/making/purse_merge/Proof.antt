@@ -7,7 +7,7 @@ use Rattle.purse.proofs.making.purse_merge.Tie as tie
 returns : tie.Need-returns
 returns c =
     let merge = c.before.before.before.before.before.merge in
-    merge_door c.merged-answer.result _ _ _ merge.result c.merged-answer.ensures merge.ensures
+    merge_door c.merged_answer.result _ _ _ merge.result c.merged_answer.ensures merge.ensures
 
 pub purse-merge-spec : {M : Type 1} → statement M
 purse-merge-spec =

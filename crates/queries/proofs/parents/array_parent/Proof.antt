@@ -25,7 +25,7 @@ returns c =
     let args = c.before.before.before.before.before.args in
     let second-of = c.before.before.before.second-of in
     parent_read pre.0 pre.1 c.before.first_of.result second-of.result c.before.first_of.ensures second-of.ensures
-    args.index c.before.before.if1.true c.pool-parent.result c.pool-parent.ensures
+    args.index c.before.before.if1.true c.pool_parent.result c.pool_parent.ensures
 
 returns-2 : tie.Need-returns-2
 returns-2 c =

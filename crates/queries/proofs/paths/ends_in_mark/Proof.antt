@@ -45,7 +45,7 @@ returns c =
     let kind-of = c.before.before.before.before.kind-of in
     let first_of = c.before.before.first_of in
     last_read pre (sym kind-of.ensures ∙ c.before.before.before.if1.true) first_of.result c.before.second-of.result
-    first_of.ensures c.before.second-of.ensures c.pool-state.result c.pool-state.ensures
+    first_of.ensures c.before.second-of.ensures c.pool_state.result c.pool_state.ensures
 
 returns-2 : tie.Need-returns-2
 returns-2 c = rw c.before.kind-of.ensures (sym (path_other c.before.before.before.requires (λ e. c.if1.false (c.before.kind-of.ensures ∙ e))))

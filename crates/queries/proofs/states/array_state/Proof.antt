@@ -26,7 +26,7 @@ returns c =
     let second-of = c.before.before.before.before.second-of in
     let first_of = c.before.before.first_of in
     state_read pre.0 pre.1 first_of.result second-of.result first_of.ensures second-of.ensures args.index
-    c.before.before.before.if1.true c.before.pool-state.result c.expand.result.0 c.before.pool-state.ensures
+    c.before.before.before.if1.true c.before.pool_state.result c.expand.result.0 c.before.pool_state.ensures
     c.expand.ensures
 
 returns-2 : tie.Need-returns-2

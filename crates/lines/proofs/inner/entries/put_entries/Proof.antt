@@ -45,11 +45,11 @@ put-entry-requires c κs =
     let args = c.before.before.before.before.before.before.before.args in
     let pre = c.before.before.before.before.before.before.before.requires in
     let loop = c.before.before.before.before.loop in
-    let pool_parent = c.before.before.pool-parent in
-    rest_room loop.invariant.1 (entry_bytes c.before.pool-state.result pool_parent.result)
+    let pool_parent = c.before.before.pool_parent in
+    rest_room loop.invariant.1 (entry_bytes c.before.pool_state.result pool_parent.result)
     (entries_bytes (pool_node args.store.now (args.from + (loop.i + 1)) (args.n - (loop.i + 1))))
-    (pool_first args.store.now args.from args.n pre.0 loop.i c.before.pool-state.result pool_parent.result
-    c.before.before.before.loop-test.true c.before.pool-state.ensures pool_parent.ensures)
+    (pool_first args.store.now args.from args.n pre.0 loop.i c.before.pool_state.result pool_parent.result
+    c.before.before.before.loop-test.true c.before.pool_state.ensures pool_parent.ensures)
 
 add-i : tie.Need-overflow-add-i invariant-loop decreases-loop
 add-i c = omega arith
@@ -63,8 +63,8 @@ loop-again c =
     let pre = c.before.before.before.before.before.before.before.before.before.before.requires in
     let loop = c.before.before.before.before.before.before.before.loop in
     let loop-test = c.before.before.before.before.before.before.loop-test in
-    let pool_parent = c.before.before.before.before.before.pool-parent in
-    let pool_state = c.before.before.before.before.pool-state in (
+    let pool_parent = c.before.before.before.before.before.pool_parent in
+    let pool_state = c.before.before.before.before.pool_state in (
       omega arith,
       rest_step loop.invariant.1 _
           (pool_first args.store.now args.from args.n pre.0 loop.i pool_state.result pool_parent.result

@@ -33,7 +33,7 @@ returns : tie.Need-returns
 returns c =
     let args = c.before.before.before.before.before.before.before.before.before.before.before.before.before.before.before.before.before.before.args in
     let call = c.before.before.before.before.before.before.before.before.before.before.before.call in
-    let new-set = c.before.before.before.before.before.before.new-set in
+    let new-set = c.before.before.before.before.before.before.new_set in
     call_new args.out.now args.store.now args.set.now args.stops.now args.scratch.now args.call _ _
     call.given.0.0 call.given.1 _ _ new-set.ensures
 
