@@ -73,6 +73,7 @@ of_two (x ∷ []) a b (inl e) (inl d) n = absurd (n (sym e ∙ d))
 of_two (x ∷ []) a b (inl e) (inr k) n = absurd k
 of_two (x ∷ []) a b (inr m) k n = absurd m
 of_two (x ∷ y ∷ xs) a b m k n = omega arith
+of_two [] a b m k n = elim m [ ]
 
 -- another config of the same subset has another alternative
 abbrev pub Rival : List Config → Config → Type 0

@@ -64,6 +64,7 @@ module _ (alike : Config → Config → Bool) where
       bool? (alike c s.0)
       (λ e. inl (f c s.0 e s.2))
       (λ e. inr (some_which (other c) P (firsts alike cs) (in_some (λ x. (other c x ≡ true) × P x) (firsts alike cs) s.0 s.1 (rw e, s.2))))
+  some_firsts P [] f x'' = elim x'' [ ]
 
   -- no two are alike
   pub firsts_once : (cs : List Config) → Pairwise (λ c d. alike c d ≡ false) (firsts alike cs)

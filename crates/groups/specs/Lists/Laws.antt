@@ -1,3 +1,9 @@
+made_some P [] x' = elim x' [ ]
+some_made P [] x' = elim x' [ ]
+before_asym P Q [] n x3 _ = elim x3 [ ]
+before_map P Q P' Q' [] f g x3 = elim x3 [ ]
+in_some P [] a x'' p = elim x'' [ ]
+some_in P [] x' = elim x' [ ]
 -- Laws of some, every and what comes first. Nothing here has to be believed.
 use Rattle.std.specs.Prelude.{◌≡◌, refl, List, [], ◌∷◌, map, ℕ, ◌<◌}
 use Rattle.std.proofs.Common.{sym, ◌∙◌, subst, inl, inr, arith}
@@ -7,6 +13,7 @@ module _ {A : Type 0} where
   pub some_map : (P Q : A → Type 0) (xs : List A) → ((x : A) → P x → Q x) → Any P xs → Any Q xs
   some_map P Q (x ∷ xs) f (inl p) = inl (f x p)
   some_map P Q (x ∷ xs) f (inr m) = inr (some_map P Q xs f m)
+  some_map P Q [] f x'' = elim x'' [ ]
 
   pub every_map : (P Q : A → Type 0) (xs : List A) → ((x : A) → P x → Q x) → All P xs → All Q xs
   every_map P Q [] f v = tt
@@ -31,6 +38,7 @@ module _ {A : Type 0} where
   pub every_in : (P : A → Type 0) (xs : List A) → All P xs → (a : A) → In a xs → P a
   every_in P (x ∷ xs) v a (inl e) = subst P e v.0
   every_in P (x ∷ xs) v a (inr m) = every_in P xs v.1 a m
+  every_in P [] v a x'' = elim x'' [ ]
 
   pub in_every : (P : A → Type 0) (xs : List A) → ((a : A) → In a xs → P a) → All P xs
   in_every P [] f = tt

@@ -33,6 +33,7 @@ module _ {A : Type 0} where
   unfolding any
   some_any t P (x ∷ xs) f (inl p) = true_or_left (t x) (any t xs) (f x p)
   some_any t P (x ∷ xs) f (inr m) = or_right (t x) (any t xs) (some_any t P xs f m)
+  some_any t P [] f x'' = elim x'' [ ]
 
   pub all_every : (t : A → Bool) (P : A → Type 0) (xs : List A) → ((x : A) → t x ≡ true → P x) → all t xs ≡ true → All P xs
   unfolding all
@@ -97,6 +98,7 @@ module _ {A : Type 0} where
   pub some_which : (t : A → Bool) (P : A → Type 0) (xs : List A) → Any (λ x. (t x ≡ true) × P x) xs → Any P (which t xs)
   some_which t P (x ∷ xs) (inl p) = by_which t (Any P) x xs (λ e. inl p.1) (λ e. never_both p.0 e)
   some_which t P (x ∷ xs) (inr m) = by_which t (Any P) x xs (λ e. inr (some_which t P xs m)) (λ e. some_which t P xs m)
+  some_which t P [] x' = elim x' [ ]
 
   -- every one of them is a P exactly if every element that passes is
   pub every_passes : (t : A → Bool) (P : A → Type 0) (xs : List A) → All P (which t xs) ↔ All (λ x. t x ≡ true → P x) xs

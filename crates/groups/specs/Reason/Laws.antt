@@ -28,10 +28,12 @@ module _ {A : Type 0} where
   first_unique P (x ∷ xs) a b (inl p) (inr q) = absurd (q.0 p.0)
   first_unique P (x ∷ xs) a b (inr p) (inl q) = absurd (p.0 q.0)
   first_unique P (x ∷ xs) a b (inr p) (inr q) = first_unique P xs a b p.1 q.1
+  first_unique P [] a b x'' _ = elim x'' [ ]
 
   pub first_some : (P : A → Type 0) (xs : List A) (a : A) → FirstOf P a xs → In a xs × P a
   first_some P (x ∷ xs) a (inl p) = (inl p.1, subst P p.1 p.0)
   first_some P (x ∷ xs) a (inr p) = let r = first_some P xs a p.1 in (inr r.0, r.1)
+  first_some P [] a x' = elim x' [ ]
 
   any_first : (t : A → Bool) (P : A → Type 0) (xs : List A) → ((a : A) → (t a ≡ true) ↔ P a) → any t xs ≡ true → (a : A) × FirstOf P a xs
   unfolding any

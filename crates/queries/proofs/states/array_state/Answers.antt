@@ -1,0 +1,37 @@
+-- An index below the length is a place in the pool; any other is past the end.
+use borrow.Author.Rules.{rules}
+use native.Mathlib.Omega.{arith}
+use mathlib.Core.Path.{sym}
+use Rattle.queries.specs.EntryWords.{few, bounds_read, state_read, state_many_past}
+use Rattle.queries.proofs.states.array_state.Goals as goal
+
+pub pool_state-held-requires : goal.pool_state-held-requires
+pool_state-held-requires c =
+    let pre = c.requires in
+    let second-of = c.second_of in (
+      pre.0.sized,
+      omega (
+        arith,
+        c.if-index-second_of.true,
+        bounds_read pre.0 pre.1 c.first_of-from.result second-of.result c.first_of-from.ensures
+            second-of.ensures,
+      ),
+    )
+
+
+pub returns-then-index-second_of : goal.returns-then-index-second_of
+returns-then-index-second_of c =
+    let pre = c.requires in
+    let args = c.args in
+    let second-of = c.second_of in
+    let first_of = c.first_of-from in
+    state_read pre.0 pre.1 first_of.result second-of.result first_of.ensures second-of.ensures args.index
+    c.if-index-second_of.true c.pool_state-held.result c.expand.result.0 c.pool_state-held.ensures
+    c.expand.ensures
+
+
+pub returns : goal.returns
+returns c =
+    let pre = c.requires in
+    sym (state_many_past pre.0 c.args.index pre.1 (omega (arith, c.second_of.ensures)))
+
