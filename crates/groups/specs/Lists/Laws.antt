@@ -1,9 +1,3 @@
-made_some P [] x' = elim x' [ ]
-some_made P [] x' = elim x' [ ]
-before_asym P Q [] n x3 _ = elim x3 [ ]
-before_map P Q P' Q' [] f g x3 = elim x3 [ ]
-in_some P [] a x'' p = elim x'' [ ]
-some_in P [] x' = elim x' [ ]
 -- Laws of some, every and what comes first. Nothing here has to be believed.
 use Rattle.std.specs.Prelude.{◌≡◌, refl, List, [], ◌∷◌, map, ℕ, ◌<◌}
 use Rattle.std.proofs.Common.{sym, ◌∙◌, subst, inl, inr, arith}
@@ -48,16 +42,19 @@ module _ {A : Type 0} where
   pub some_in : (P : A → Type 0) (xs : List A) → Any P xs → (a : A) × In a xs × P a
   some_in P (x ∷ xs) (inl p) = (x, inl refl, p)
   some_in P (x ∷ xs) (inr m) = let s = some_in P xs m in (s.0, inr s.1, s.2)
+  some_in P [] x' = elim x' [ ]
 
   pub in_some : (P : A → Type 0) (xs : List A) (a : A) → In a xs → P a → Any P xs
   in_some P (x ∷ xs) a (inl e) p = inl (subst P (sym e) p)
   in_some P (x ∷ xs) a (inr m) p = inr (in_some P xs a m p)
+  in_some P [] a x'' p = elim x'' [ ]
 
   -- ---- what comes first
 
   pub before_map : (P Q P' Q' : A → Type 0) (xs : List A) → ((x : A) → P x → P' x) → ((x : A) → Q' x → Q x) → Before P Q xs → Before P' Q' xs
   before_map P Q P' Q' (x ∷ xs) f g (inl p) = inl (f x p)
   before_map P Q P' Q' (x ∷ xs) f g (inr b) = inr (λ q. b.0 (g x q), before_map P Q P' Q' xs f g b.1)
+  before_map P Q P' Q' [] f g x3 = elim x3 [ ]
 
   -- not both before the other
   pub before_asym : (P Q : A → Type 0) (xs : List A) → ((x : A) → P x → Q x → ⊥) → Before P Q xs → Before Q P xs → ⊥
@@ -65,6 +62,7 @@ module _ {A : Type 0} where
   before_asym P Q (x ∷ xs) n (inl p) (inr b) = b.0 p
   before_asym P Q (x ∷ xs) n (inr a) (inl q) = a.0 q
   before_asym P Q (x ∷ xs) n (inr a) (inr b) = before_asym P Q xs n a.1 b.1
+  before_asym P Q [] n x3 _ = elim x3 [ ]
 
   -- ---- two lists in order, with the same elements, are one
 
@@ -109,10 +107,12 @@ module _ {A B : Type 0} (f : A → B) where
   pub some_made : (P : B → Type 0) (xs : List A) → Any (λ x. P (f x)) xs → Any P (map f xs)
   some_made P (x ∷ xs) (inl p) = inl p
   some_made P (x ∷ xs) (inr m) = inr (some_made P xs m)
+  some_made P [] x' = elim x' [ ]
 
   pub made_some : (P : B → Type 0) (xs : List A) → Any P (map f xs) → Any (λ x. P (f x)) xs
   made_some P (x ∷ xs) (inl p) = inl p
   made_some P (x ∷ xs) (inr m) = inr (made_some P xs m)
+  made_some P [] x' = elim x' [ ]
 
   pub pairwise_made : (R : B → B → Type 0) (xs : List A) → Pairwise (λ x y. R (f x) (f y)) xs → Pairwise R (map f xs)
   pairwise_made R [] v = tt
