@@ -1,6 +1,6 @@
 -- What configs share that are alike, as numbers. Nothing here has to be believed.
 use Rattle.std.specs.Prelude.{◌≡◌, Bool, true, List, [], ◌∷◌, ℕ, ◌+◌, ◌*◌}
-use Rattle.std.proofs.Common.{sym, ap, ◌∙◌, subst, arith}
+use Rattle.std.proofs.Common.{sym, ◌∙◌, subst, arith}
 use Rattle.encoding.specs.Decide.{same_words}
 use Rattle.encoding.specs.Decide.Laws.{same_words_lem, words_same}
 use Rattle.sets.specs.Config.{Config}

@@ -1,6 +1,6 @@
 -- Some subset has two or more alternatives exactly if a config has another alternative than the first of its subset. Nothing here has to be believed.
-use Rattle.std.specs.Prelude.{◌≡◌, true, false, List, [], ◌∷◌, ℕ, suc, ◌<◌, ◌≤◌, ◌+◌, get_or}
-use Rattle.std.proofs.Common.{sym, ap, ◌∙◌, arith, add-one, below_more}
+use Rattle.std.specs.Prelude.{◌≡◌, true, false, List, ℕ, ◌<◌, ◌≤◌, ◌+◌, get_or}
+use Rattle.std.proofs.Common.{sym, ap, ◌∙◌, arith, below_more}
 use Rattle.sets.specs.Config.{Config}
 use Rattle.sets.specs.Layout.{config_at, config_count}
 use Rattle.sets.specs.Lists.{any}

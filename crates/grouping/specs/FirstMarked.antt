@@ -1,6 +1,6 @@
 -- The first config whose first one is marked, or is not, and what the marks say of it. Nothing here has to be believed.
-use Rattle.std.specs.Prelude.{◌≡◌, refl, ◌↔◌, Bool, true, false, ◌&&◌, not, List, ℕ, ◌<◌, ◌≤◌, ◌+◌, eqb}
-use Rattle.std.proofs.Common.{sym, ap, ◌∙◌, arith, below_more}
+use Rattle.std.specs.Prelude.{◌≡◌, refl, Bool, true, false, ◌&&◌, not, List, ℕ, ◌<◌, ◌+◌, eqb}
+use Rattle.std.proofs.Common.{sym, ◌∙◌, arith, below_more}
 use Rattle.std.specs.Bool.{beq}
 use Rattle.std.proofs.lemmas.Bool.{false≢true}
 use Rattle.grouping.specs.Marks.{picks, each_picked, leader_at, mark_at, Marked}
@@ -9,7 +9,7 @@ use Rattle.sets.specs.Config.{Config}
 use Rattle.sets.specs.Layout.{config_at, config_count}
 use Rattle.sets.specs.Lists.{any, all}
 use Rattle.sets.specs.Words.{configs_in}
-use Rattle.sets.specs.Listed.{any_at, at_any, all_at, at_all}
+use Rattle.sets.specs.Listed.{all_at, at_all}
 use Rattle.grouping.specs.Alike.{alike_of}
 use Rattle.grouping.specs.Led.{Led}
 use Rattle.grouping.specs.Marks.Laws.{mark_tells}

@@ -1,5 +1,5 @@
 -- The first and the next of the numbers that are alike to a number. Nothing here has to be believed.
-use Rattle.std.specs.Prelude.{◌≡◌, refl, Bool, true, false, List, ℕ, zero, suc, ◌<◌, ◌≤◌}
+use Rattle.std.specs.Prelude.{◌≡◌, Bool, true, false, ℕ, zero, suc, ◌<◌, ◌≤◌}
 use Rattle.std.proofs.Common.{sym, ◌∙◌, arith}
 use Rattle.cases.specs.Numbers.{three, two}
 use Rattle.arena.specs.Store.{at, nowhere}

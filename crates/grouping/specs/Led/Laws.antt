@@ -1,5 +1,5 @@
 -- One config more: its chain, its first one, and the next of the last one before it. Nothing here has to be believed.
-use Rattle.std.specs.Prelude.{◌≡◌, refl, ◌≢◌, Bool, true, false, List, [], ◌∷◌, ◌++◌, ℕ, zero, suc, ◌<◌, ◌≤◌, ◌+◌, get_or, set}
+use Rattle.std.specs.Prelude.{◌≡◌, ◌≢◌, List, [], ◌∷◌, ℕ, suc, ◌<◌, ◌≤◌, ◌+◌, get_or, set}
 use Rattle.std.proofs.Common.{sym, ◌∙◌, add-one, length-set, get_or-set_same, get_or-set_other}
 use Rattle.std.proofs.Math.Path.{ap}
 use native.Mathlib.Omega.{arith}
@@ -8,13 +8,11 @@ use Rattle.cases.specs.Numbers.{two}
 use Rattle.arena.specs.Store.{at, nowhere}
 use Rattle.layout.specs.Layout.{scratch_words}
 use Rattle.sets.specs.Layout.{most_configs, config_at}
-use Rattle.sets.specs.Lists.{any}
 use Rattle.sets.specs.Words.{configs_in}
 use Rattle.sets.specs.Listed.{at_any, none_any}
 use Rattle.sets.specs.Chains.{last, last_none, Chained, linked, linked_length, linked_other, chain_empty, chain_add}
-use Rattle.setcheck.specs.Keys.{key_heads, key_links, key_bucket}
+use Rattle.setcheck.specs.Keys.{key_heads, key_links}
 use Rattle.groups.specs.Groups.{firsts}
-use Rattle.groups.specs.Firsts.{Likeness}
 use Rattle.groups.specs.Last.{firsts_new, firsts_old}
 use Rattle.grouping.specs.Alike.{alike_of, alike_at, alike_kind}
 use Rattle.grouping.specs.Leads.{Kin, FirstAlike, Next, lead_new, next_new, before, alike, lead_old, next_last, next_other, next_own}

@@ -1,5 +1,5 @@
 -- One config more has marked; and what all marks together say. Nothing here has to be believed.
-use Rattle.std.specs.Prelude.{◌≡◌, refl, ◌⊎◌, ◌≢◌, Bool, ◌&&◌, not, List, ℕ, suc, ◌<◌, ◌≤◌, ◌+◌, eqb, length, get_or, set}
+use Rattle.std.specs.Prelude.{◌≡◌, refl, ◌⊎◌, Bool, ◌&&◌, not, List, ℕ, suc, ◌<◌, ◌≤◌, ◌+◌, eqb, length, get_or, set}
 use Rattle.std.proofs.Common.{sym, ap, ◌∙◌, subst, inl, inr, ⊎_elim, arith, add-one, length-set, get_or-set_same, get_or-set_other, eq-eqb, ne_eqb}
 use Rattle.std.proofs.Math.Bool.{true, false}
 use Rattle.std.proofs.lemmas.Bool.{eqb-false, not-true}
@@ -9,15 +9,15 @@ use Rattle.cases.specs.Numbers.{two}
 use Rattle.layout.specs.Layout.{scratch_words}
 use Rattle.sets.specs.Config.{Config}
 use Rattle.sets.specs.Layout.{most_configs, config_at, config_count}
-use Rattle.sets.specs.Lists.{any, all}
-use Rattle.cases.specs.Bools.{bool?, never_both, is_false, both_true, and_left, and_right}
+use Rattle.sets.specs.Lists.{any}
+use Rattle.cases.specs.Bools.{never_both, is_false, both_true, and_left, and_right}
 use Rattle.sets.specs.Words.{configs_in}
-use Rattle.sets.specs.Listed.{any_at, at_any, all_at, at_all}
-use Rattle.grouping.specs.Alike.{alike_of, alike_at, alike_kind}
-use Rattle.grouping.specs.Leads.{FirstAlike, leads_one}
-use Rattle.grouping.specs.Led.{leaders_at, marks_at, marks_end, Lent, Led}
+use Rattle.sets.specs.Listed.{any_at, at_any}
+use Rattle.grouping.specs.Alike.{alike_of, alike_at}
+use Rattle.grouping.specs.Leads.{leads_one}
+use Rattle.grouping.specs.Led.{leaders_at, marks_at, marks_end, Led}
 use Rattle.grouping.specs.Led.Laws.{kin}
-use Rattle.grouping.specs.Marks.{picks, each_picked, leader_at, mark_at, marked_if, Markable, Marked}
+use Rattle.grouping.specs.Marks.{picks, leader_at, mark_at, marked_if, Markable, Marked}
 use Rattle.grouping.specs.declared.inner.traits.Alike.{Alike}
 use Rattle.grouping.specs.declared.inner.marks.Picks.{Picks}
 use Rattle.grouping.specs.declared.inner.marks.Picks.TheVariants.{Rivals, Holders}
