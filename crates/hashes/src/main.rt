@@ -4,10 +4,11 @@
 
 mod records;
 
-ghost use Rattle.std.specs.Prelude.{◌≤◌};
+ghost use Rattle.std.specs.Prelude.{◌≤◌, IfOk};
 
-use libc::STDOUT_FILENO;
 use records::agrees;
+use std::io::{ErrorKind, Read};
+use std::{fs, io};
 
 // How many records were read, and how many of them differ.
 #[derive(Clone, Copy)]
@@ -16,43 +17,46 @@ struct Tally {
     differences: u64,
 }
 
+// Reads the next record. False where it is cut short.
+fn next_record<R: Read>(file: &mut R, record: &mut [u8]) -> io::Result<bool> {
+    match file.read_exact(record) {
+        Ok(()) => Ok(true),
+        Err(e) if e.kind() == ErrorKind::UnexpectedEof => Ok(false),
+        Err(e) => Err(e),
+    }
+}
+
 // Reads records until one is cut short; at most 10,000.
-fn compare(file: i32) -> Tally
-    ensures { result.differences ≤ result.hashes }
+fn compare<R: Read>(file: &mut R) -> io::Result<Tally>
+    ensures { IfOk result (λ tally. tally.differences ≤ tally.hashes) }
 {
     let mut record = [0u8; 128];
     let mut list = [0u64; 14];
     let mut hashes: u64 = 0;
     let mut differences: u64 = 0;
     while hashes < 10000 {
-        if io::read_full(file, &mut record) != 128 {
-            return Tally {
+        if !next_record(file, &mut record)? {
+            return Ok(Tally {
                 hashes,
                 differences,
-            };
+            });
         }
         hashes += 1;
         if !agrees(&record, &mut list) {
             differences += 1;
         }
     }
-    Tally {
+    Ok(Tally {
         hashes,
         differences,
-    }
+    })
 }
 
-fn main() {
-    let path = b"hashes.bin";
-    let file = os::open_read(path);
-    if file < 0 {
-        os::fail(path);
-        return;
-    }
-    let tally = compare(file);
-    libc::close(file);
-    io::print_decimal(STDOUT_FILENO, tally.hashes);
-    io::write_all(STDOUT_FILENO, b" hashes, ");
-    io::print_decimal(STDOUT_FILENO, tally.differences);
-    io::write_all(STDOUT_FILENO, b" differences\n");
+fn main(rt: HostRuntime) -> io::Result<()> {
+    let mut file = fs::open(&rt, "hashes.bin")?;
+    let Tally {
+        hashes,
+        differences,
+    } = compare(&mut file)?;
+    println!(rt; "{hashes} hashes, {differences} differences")
 }
