@@ -126,7 +126,7 @@ def main(argv):
     def turn(path, text):
         def one(found):
             word = found[0]
-            if word not in table:
+            if word not in table or word in LEMMAS and "/specs/" not in path:
                 return word
             at = found.start()
             if text[at - 1 : at] == ".":

@@ -7,4 +7,4 @@ mod settle;
 mod write;
 
 pub use adding::{Added, add};
-pub use settle::{Settled, close, fresh_set_lem};
+pub use settle::{Settled, close, fresh_set};

@@ -18,7 +18,7 @@ pub enum Settled {
 }
 
 // Makes the lent words a set without configs, over any earlier contents. Refused 2.
-pub fn fresh_set_lem(set: &mut [u32], full_context: bool) -> Settled
+pub fn fresh_set(set: &mut [u32], full_context: bool) -> Settled
     ensures { (settled result, set.new) ≡ fresh_set_call set.old full_context }
 {
     if set.len() != SET_WORDS {

@@ -14,7 +14,7 @@ use words::{Alternative, ContextId, SemanticId};
 pub extern "C" fn purse_fresh_set(set: &mut [u32], mode: u32) -> u32
     ensures { (result ≡ set_number_of (fresh_set_call set.old (by_full_context mode)).0) × (set.new ≡ (fresh_set_call set.old (by_full_context mode)).1) }
 {
-    settled_number(configs::fresh_set_lem(set, mode == 0))
+    settled_number(configs::fresh_set(set, mode == 0))
 }
 
 // Adds a config, given by its six words in their order.

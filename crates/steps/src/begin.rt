@@ -17,7 +17,7 @@ pub fn start(
     ensures { lent store.new set.new stops.new scratch.new ≡ fresh }
 {
     store::fresh(store);
-    configs::fresh_set_lem(set, true);
+    configs::fresh_set(set, true);
     words::clear(stops);
     words::clear(scratch);
 }

@@ -16,7 +16,7 @@ pub fn new_set(set: &mut [u32], scratch: &mut [u32], wildcard: bool, out: &mut [
     requires { length out.old ≡ line_bytes }
     ensures { Renewed out.old set.old scratch.old (not wildcard) result out.new set.new scratch.new }
 {
-    let answer = configs::fresh_set_lem(set, !wildcard);
+    let answer = configs::fresh_set(set, !wildcard);
     match answer {
         Settled::Done => {
             wipe(scratch);

@@ -1,8 +1,8 @@
 -- A wrong length, then zeros, with flag 1 where it is asked for.
 use borrow.Author.Rules.{rules}
 use Rattle.configs.specs.Settles.{fresh_short, fresh_plain, fresh_full}
-use Rattle.configs.proofs.settle.fresh_set_lem.Statement.{statement}
-use Rattle.configs.proofs.settle.fresh_set_lem.Tie as tie
+use Rattle.configs.proofs.settle.fresh_set.Statement.{statement}
+use Rattle.configs.proofs.settle.fresh_set.Tie as tie
 
 returns : tie.Need-returns
 returns c =

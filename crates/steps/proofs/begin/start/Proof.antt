@@ -12,10 +12,10 @@ returns : tie.Need-returns
 returns c =
     let args = c.before.before.before.before.before.before.before.before.args in
     let fresh = c.before.before.before.before.before.before.fresh in
-    let fresh_set_lem = c.before.before.before.before.fresh_set in
+    let fresh_set = c.before.before.before.before.fresh_set in
     let clear = c.before.before.clear in
     let sized : length args.stops.now ≡ 65 = omega arith in
-    fresh_is args.store.now _ _ fresh.ensures (omega arith) args.set.now _ _ fresh_set_lem.ensures (omega arith)
+    fresh_is args.store.now _ _ fresh.ensures (omega arith) args.set.now _ _ fresh_set.ensures (omega arith)
     _ (clear.ensures ∙ ap (λ (n : ℕ). replicate n 0) sized) args.scratch.now _ c.clear2.ensures (omega arith)
 
 pub start_spec : {M : Type 1} → statement M

@@ -9,20 +9,20 @@ returns : tie.Need-returns
 unfolding new_set_line
 returns c =
     let args = c.before.before.before.before.before.before.before.before.before.before.before.before.before.before.before.before.before.args in
-    let fresh_set_lem = c.before.before.before.before.before.before.before.before.before.before.before.before.fresh_set in
+    let fresh_set = c.before.before.before.before.before.before.before.before.before.before.before.before.fresh_set in
     let enum_told = c.before.before.before.before.before.before.before.before.enum_told in
     let wipe = c.before.before.before.before.before.before.wipe in
     let lay-letter = c.before.before.lay-letter in
-    new_done args.out.now _ _ args.set.now _ args.scratch.now _ fresh_set_lem.result fresh_set_lem.ensures enum_told.given.1 _ wipe.ensures lay-letter.ensures
+    new_done args.out.now _ _ args.set.now _ args.scratch.now _ fresh_set.result fresh_set.ensures enum_told.given.1 _ wipe.ensures lay-letter.ensures
 
 returns-2 : tie.Need-returns-2
 returns-2 c =
     let args = c.before.before.before.before.before.before.before.before.before.before.before.before.before.before.before.args in
-    let fresh_set_lem = c.before.before.before.before.before.before.before.before.before.before.fresh_set in
+    let fresh_set = c.before.before.before.before.before.before.before.before.before.before.fresh_set in
     let answer = c.before.before.before.before.before.before.answer in
     let refusal-number = c.before.before.before.refusal-number in
     let lay-number = c.before.before.lay-number in
-    new_refused args.out.now _ _ args.set.now _ args.scratch.now _ fresh_set_lem.result fresh_set_lem.ensures answer.given.0.0 answer.given.1 _
+    new_refused args.out.now _ _ args.set.now _ args.scratch.now _ fresh_set.result fresh_set.ensures answer.given.0.0 answer.given.1 _
     refusal-number.ensures lay-number.ensures
 
 pub new-set-spec : {M : Type 1} → statement M
