@@ -1,5 +1,4 @@
 -- To believe: how many entries a list has; of two or more it is an array, of one other than `$` a singleton, else context 0.
-pub mod Laws
 use Rattle.std.specs.Prelude.{ℕ, suc}
 use Rattle.arena.specs.Store.{Node, end, dollar, push}
 

@@ -1,5 +1,4 @@
 -- To believe: "New contexts take the next number: inner merges go in rising order of top state, each before the context above it, and nothing else is made."
-pub mod Laws
 use Rattle.std.specs.Prelude.{◌≡◌, List, [], ◌∷◌, ◌++◌, ℕ, ◌<◌, length}
 use Rattle.stacks.specs.Forest.{Forest, none, mark, over}
 use Rattle.arena.specs.Store.{Node, Store, tree}

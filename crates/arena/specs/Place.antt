@@ -1,5 +1,4 @@
 -- To believe: a set of stacks placed in a store: what stands beneath first, in rising order of the top state, each part found or appended.
-pub mod Laws
 use Rattle.std.specs.Prelude.{Bool, ◌∷◌, ℕ, length}
 use Rattle.stacks.specs.Forest.{Forest, none, mark, over}
 use Rattle.stacks.specs.Merge.{merge_t}

@@ -1,5 +1,4 @@
 -- To believe: the room that a store takes in the pool.
-pub mod Laws
 use Rattle.std.specs.Prelude.{[], ◌∷◌, ℕ, ◌+◌}
 use Rattle.arena.specs.Store.{Node, end, dollar, push, Store}
 use Rattle.arena.specs.Kinds.{size}

@@ -4,8 +4,8 @@ use Rattle.std.specs.Prelude.{◌≡◌, ◌≢◌, Bool, true, false, List, [],
 use Rattle.layout.specs.Layout.{most_contexts, scratch_words}
 use Rattle.words.specs.Lent.{cleared_range}
 use Rattle.work.specs.Counted.{Result, keep, most_merges, most_results}
-use Rattle.work.specs.Counted.Laws.{result}
-use Rattle.work.specs.KeptWords.{bit, kept_in}
+use Rattle.work.proofs.CountedLaws.{result}
+use Rattle.work.proofs.KeptWords.{bit, kept_in}
 
 -- ---- the words by name
 

@@ -7,10 +7,10 @@ use Rattle.std.proofs.Math.Dec.{eqb}
 use Rattle.cases.specs.Numbers.{two}
 use Rattle.arena.specs.Store.{Found, at}
 use Rattle.work.specs.Counted.{Result, recall}
-use Rattle.work.specs.Counted.Laws.{result, test}
-use Rattle.work.specs.Kept.{key_is}
-use Rattle.work.specs.Hits.{recall_new}
-use Rattle.work.specs.KeptWords.{bit, packed, result_in, read_back, kept_in}
+use Rattle.work.proofs.CountedLaws.{result, test}
+use Rattle.work.proofs.Kept.{key_is}
+use Rattle.work.proofs.Hits.{recall_new}
+use Rattle.work.proofs.KeptWords.{bit, packed, result_in, read_back, kept_in}
 use Rattle.cache.specs.Cache.{result_word, key_of, bucket_of, bucket_at, newest}
 
 -- ---- the newest of a bucket

@@ -3,7 +3,7 @@ use Rattle.std.specs.Prelude.{◌≡◌, ◌≢◌, List, ℕ, ◌<◌, ◌≤�
 use Rattle.std.proofs.Math.Path.{sym, ap}
 use Rattle.std.proofs.Common.{◌∙◌, arith, get_or-set_other}
 use Rattle.std.proofs.Math.Seq.{get_or-set_same}
-use Rattle.work.specs.KeptWords.{kept_in, kept_frame}
+use Rattle.work.proofs.KeptWords.{kept_in, kept_frame}
 use Rattle.cache.specs.Cache.{kept_count, merges_counted, kept_of, result_word, result_link, bucket_head, bucket_of, bucket_at, newest, CacheSound}
 use Rattle.cache.specs.Chain.{newest_frame}
 

@@ -11,9 +11,9 @@ use Rattle.cases.specs.Numbers.{two, below?}
 use Rattle.words.specs.Lent.{cleared_range}
 use Rattle.words.specs.Lent.Laws.{length_cleared_range, cleared_range_before, cleared_range_inside, cleared_range_after}
 use Rattle.work.specs.Counted.{Result}
-use Rattle.work.specs.Counted.Laws.{result}
-use Rattle.work.specs.Equations.{keep_more, keep_full}
-use Rattle.work.specs.KeptWords.{result_in, read_back, kept_in, kept_frame, kept_length}
+use Rattle.work.proofs.CountedLaws.{result}
+use Rattle.work.proofs.Equations.{keep_more, keep_full}
+use Rattle.work.proofs.KeptWords.{result_in, read_back, kept_in, kept_frame, kept_length}
 use Rattle.cache.specs.Cache.{kept_count, merges_counted, kept_of, result_word, result_link, bucket_head, key_of, bucket_of, bucket_at, newest, CacheSound, Asked}
 use Rattle.cache.specs.Cache.{Emptied, Remembered, cleared_cache, put_result}
 use Rattle.cache.specs.Keys.{sides_small}

@@ -3,8 +3,8 @@ use Rattle.std.specs.Prelude.{◌≡◌, refl, Bool, true, false, ℕ, ◌<◌, 
 use Rattle.std.proofs.Common.{arith}
 use Rattle.std.proofs.Math.Nat.{min-eq_left, min-eq_right, max-eq_left, max-eq_right}
 use mir.Val.{bool_byte}
-use Rattle.work.specs.Counted.Laws.{by_sides}
-use Rattle.work.specs.KeptWords.{bit}
+use Rattle.work.proofs.CountedLaws.{by_sides}
+use Rattle.work.proofs.KeptWords.{bit}
 use Rattle.cache.specs.Cache.{key_of}
 
 kind_bit : (m : Bool) → bool_byte m ≡ bit m

@@ -5,7 +5,7 @@ use Rattle.std.proofs.Math.Path.{ap}
 use Prim.Native.Nat.{ℕ, suc, ◌<◌, ◌≤◌, ◌-◌, ◌/◌, ◌%◌}
 use Rattle.arena.specs.Store.{at, nowhere}
 use Rattle.work.specs.Counted.{recall}
-use Rattle.work.specs.KeptWords.{kept_in}
+use Rattle.work.proofs.KeptWords.{kept_in}
 use Rattle.cache.specs.Cache.{kept_count, kept_of, result_word, result_link, bucket_head, key_of, bucket_of, bucket_at, newest, CacheSound}
 use Rattle.cache.specs.Chain.{newest_le, newest_bucket, word_hit, word_past, skip}
 

@@ -6,7 +6,7 @@ use Rattle.words.specs.Refusals.{number}
 use Rattle.words.specs.declared.refusals.Refusal.{Refusal}
 use Rattle.store.specs.Calls.Laws.{determined}
 use Rattle.store.specs.Calls.{refused as notMade}
-use Rattle.store.specs.Told.{number_tells}
+use Rattle.store.proofs.Told.{number_tells}
 use Rattle.contexts.specs.declared.merges.Tally.{Tally}
 use Rattle.sets.specs.Config.{Config}
 use Rattle.sets.specs.Calls.{SetReply, refused, SetLeft, set_left, set_left_after, fresh_set_call, add_call, close_call}

@@ -3,8 +3,4 @@ pub mod Replies
 pub mod Writes
 pub mod Adding
 pub mod Settles
-pub mod Inserts
-pub mod Joins
-pub mod Adds
-pub mod Sentences
 pub mod Determined

@@ -19,7 +19,7 @@ use Rattle.sets.specs.Words.{bit, flags_of, set_words, configs_in, set_of}
 use Rattle.sets.specs.Flags.{flags_are, or_fourth}
 use Rattle.sets.specs.Held.{HeldSet, held_words}
 use Rattle.sets.specs.Listed.{configs_agree}
-use Rattle.sets.specs.Sound.{sound_held}
+use Rattle.sets.proofs.Sound.{sound_held}
 use Rattle.store.specs.Checks.{given, unless}
 use Rattle.store.specs.Checks.Laws.{unless_first, unless_next, clear_goes, due_given}
 use Rattle.sets.specs.Calls.{refused, done, set_left, refusal, lent_lengths, lent_checks, fresh_set_call, close_call}

@@ -11,17 +11,17 @@ use Rattle.stacks.specs.Forest.{Forest, mem}
 use Rattle.stacks.specs.Canon.{Canon}
 use Rattle.stacks.specs.Merge.{merge_t}
 use Rattle.stacks.specs.Rules.{WildcardMerge}
-use Rattle.stacks.specs.Rules.Laws.{MergeRule, merge_rule}
+use Rattle.stacks.proofs.RulesLaws.{MergeRule, merge_rule}
 use Rattle.arena.specs.Store.{Store, tree, at}
-use Rattle.arena.specs.Trees.{tree_canon}
+use Rattle.arena.proofs.Trees.{tree_canon}
 use Rattle.arena.specs.Stands.{stands}
-use Rattle.arena.specs.Identity.{same_stacks}
+use Rattle.arena.proofs.Identity.{same_stacks}
 use Rattle.arena.specs.Place.{merge_s}
-use Rattle.arena.specs.Placed.{grew_tree, grew_length, place_there}
-use Rattle.arena.specs.Steps.{merge_holds, merge_grew, merge_same}
+use Rattle.arena.proofs.Placed.{grew_tree, grew_length, place_there}
+use Rattle.arena.proofs.Steps.{merge_holds, merge_grew, merge_same}
 use Rattle.arena.specs.Numbering.{parts, Joins}
-use Rattle.arena.specs.Numbering.Laws.{merge_numbers}
-use Rattle.arena.specs.Below.Laws.{tree_below, merge_below, place_below}
+use Rattle.arena.proofs.NumberingLaws.{merge_numbers}
+use Rattle.arena.proofs.BelowLaws.{tree_below, merge_below, place_below}
 use Rattle.layout.specs.Layout.{store_words, stop, count as contexts}
 use Rattle.layout.specs.Decode.{store_of}
 use Rattle.layout.specs.Decode.Laws.{store_length}
@@ -30,19 +30,19 @@ use Rattle.layout.specs.Encode.{words_of}
 use Rattle.encoding.specs.Good.{GoodStore}
 use Rattle.encoding.specs.Decoded.{decoded}
 use Rattle.encoding.specs.Decide.{sound}
-use Rattle.encoding.specs.Decide.Laws.{sound_true}
+use Rattle.encoding.proofs.DecideLaws.{sound_true}
 use Rattle.store.specs.Checks.{order, due}
 use Rattle.store.specs.Checks.Laws.{in_order}
 use Rattle.words.specs.Refusals.{number}
 use Rattle.work.specs.Counted.{counting, refused as over, count_of}
-use Rattle.work.specs.Theorems.{else_answered, count_within}
-use Rattle.store.specs.Told.{number_tells}
+use Rattle.work.proofs.Theorems.{else_answered, count_within}
+use Rattle.store.proofs.Told.{number_tells}
 use Rattle.store.specs.Calls.{refused, context, Left, refusal, gives_after, Accepts}
 use Rattle.store.specs.Calls.Laws.{refused_exactly, refused_leaves, accepted, right_lengths, is_sound, both_known, has_room, little_work, accepted_merges, made_exactly, found_exactly}
 use Rattle.store.specs.Nested.{if_known}
 use Rattle.store.specs.Admit.{known_goes, unknown}
 use Rattle.interning.specs.SingletonCall.Laws.{checked_agree}
-use Rattle.interning.specs.Promises.{After, after_of, no_refusal}
+use Rattle.interning.proofs.Promises.{After, after_of, no_refusal}
 use Rattle.contexts.specs.MergeCall.{merge_checks, merge_call}
 use Rattle.contexts.specs.MergeCall.Laws.{merge_nested, worked_sides}
 use Rattle.contexts.specs.Replies.{merged}

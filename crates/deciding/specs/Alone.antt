@@ -8,7 +8,7 @@ use Rattle.sets.specs.Layout.{most_configs, set_words_length, config_count}
 use Rattle.cases.specs.Bools.{never_both}
 use Rattle.groups.specs.Answers.{none, only, unique_alt, single_viable_alt}
 use Rattle.groups.specs.Sentences.{Unique}
-use Rattle.groups.specs.Single.{says_none, unique_says, Served, viable_configs}
+use Rattle.groups.proofs.Single.{says_none, unique_says, Served, viable_configs}
 use Rattle.grouping.specs.Clash.{configs_of, alt_at}
 use Rattle.grouping.specs.Places.{some_place, place_some, every_place, place_every}
 use Rattle.grouping.specs.Marks.{each_picked}

@@ -14,11 +14,11 @@ use Rattle.groups.specs.Lists.Tests.{any_exact, all_exact}
 use Rattle.groups.specs.Groups.{together, firsts, subset, groups}
 use Rattle.groups.specs.Answers.{all_subsets_conflict, all_subsets_equal, just_one}
 use Rattle.groups.specs.Sentences.{AtPlace, JustOne}
-use Rattle.groups.specs.Firsts.{together_true, true_together}
-use Rattle.groups.specs.Rules.{Beside}
-use Rattle.groups.specs.Conflicts.{Rival, conflict_configs}
-use Rattle.groups.specs.Decided.{just_exact}
-use Rattle.groups.specs.Counted.{one_alt, one_triple, alt_true, true_alt, triple_true, true_triple, equal_count}
+use Rattle.groups.proofs.Firsts.{together_true, true_together}
+use Rattle.groups.proofs.Rules.{Beside}
+use Rattle.groups.proofs.Conflicts.{Rival, conflict_configs}
+use Rattle.groups.proofs.Decided.{just_exact}
+use Rattle.groups.proofs.Counted.{one_alt, one_triple, alt_true, true_alt, triple_true, true_triple, equal_count}
 use Rattle.grouping.specs.Alike.{alike_of, alike_true, true_alike}
 use Rattle.grouping.specs.Ways.{place_true, true_place, same_places, same_alts, same_triples, same_states}
 use Rattle.grouping.specs.Marks.{picks, each_picked}

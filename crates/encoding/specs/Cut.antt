@@ -4,9 +4,9 @@ use Rattle.std.proofs.Common.{◌∙◌, subst, arith}
 use Rattle.words.specs.Lent.{cleared_range}
 use Rattle.words.specs.Lent.Laws.{length_cleared_range, cleared_range_before, cleared_range_inside, cleared_range_after}
 use Rattle.arena.specs.Store.{Store}
-use Rattle.arena.specs.Placed.{Grew}
+use Rattle.arena.proofs.Placed.{Grew}
 use Rattle.arena.specs.Room.{pool}
-use Rattle.arena.specs.Room.Laws.{room_grew}
+use Rattle.arena.proofs.RoomLaws.{room_grew}
 use Rattle.layout.specs.Layout.{store_words, count, used, parent, state}
 use Rattle.layout.specs.Encode.{put_counts, words_of}
 use Rattle.layout.specs.Ceilings.{Fits}

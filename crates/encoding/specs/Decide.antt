@@ -1,5 +1,4 @@
 -- To believe: a test that decides soundness of words: they are the words of the store that they hold, and that store is good.
-pub mod Laws
 use Rattle.std.specs.Prelude.{Bool, true, false, ◌&&◌, List, [], ◌∷◌, ℕ, suc, eqb, ltb, leb, length}
 use Rattle.arena.specs.Store.{Node, end, dollar, push, Store, at, nowhere, find}
 use Rattle.arena.specs.Kinds.{size}

@@ -4,12 +4,12 @@ use Rattle.std.specs.Prelude.{◌≡◌, refl, ◌↔◌, List, length}
 use Rattle.std.proofs.Common.{sym, ap, ◌∙◌, subst, inl, inr, arith}
 use Prim.Native.Nat.{ℕ, zero, suc, ◌<◌, ◌≤◌, ◌+◌}
 use Rattle.arena.specs.Store.{Node, end, dollar, push, Store, nowhere, find}
-use Rattle.arena.specs.Soundness.{Rise, Full, Sound}
-use Rattle.arena.specs.Trees.{find?, find_at}
+use Rattle.arena.proofs.Soundness.{Rise, Full, Sound}
+use Rattle.arena.proofs.Trees.{find?, find_at}
 use Rattle.arena.specs.Kinds.{size}
-use Rattle.arena.specs.Kinds.Laws.{room_many}
+use Rattle.arena.proofs.KindsLaws.{room_many}
 use Rattle.arena.specs.Room.{room, pool}
-use Rattle.arena.specs.Below.{NodeBelow, StoreBelow}
+use Rattle.arena.proofs.Below.{NodeBelow, StoreBelow}
 use Rattle.layout.specs.Layout.{store_words, stop, count, used, kind, first, second, parent, state}
 use Rattle.layout.specs.Listing.{listing}
 use Rattle.layout.specs.Listing.Laws.{listing_size, listing_rise, listing_below, listing_full, listing_inj, Entries}

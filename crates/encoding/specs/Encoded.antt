@@ -6,11 +6,11 @@ use Rattle.std.proofs.Math.Logic.{inl, inr}
 use native.Mathlib.Omega.{arith}
 use Rattle.cases.specs.Numbers.{two}
 use Rattle.arena.specs.Store.{Node, end, dollar, push, Store, node_at}
-use Rattle.arena.specs.Soundness.{Rise, Full, Sound}
-use Rattle.arena.specs.Trees.{node_new, node_old, node_sound, nodes_differ}
+use Rattle.arena.proofs.Soundness.{Rise, Full, Sound}
+use Rattle.arena.proofs.Trees.{node_new, node_old, node_sound, nodes_differ}
 use Rattle.arena.specs.Kinds.{size}
 use Rattle.arena.specs.Room.{room, pool}
-use Rattle.arena.specs.Below.{NodeBelow, StoreBelow}
+use Rattle.arena.proofs.Below.{NodeBelow, StoreBelow}
 use Rattle.layout.specs.Layout.{stop, count, used, kind, first, second, parent, state}
 use Rattle.layout.specs.Listing.Laws.{Entries}
 use Rattle.layout.specs.Decode.{node_in, store_in, store_of}

@@ -6,9 +6,9 @@ use Prim.Native.Nat.{ℕ, zero, suc, ◌<◌, ◌≤◌, ◌+◌}
 use native.Mathlib.Omega.{arith}
 use Rattle.cases.specs.Numbers.{two}
 use Rattle.arena.specs.Store.{Node, end, dollar, push}
-use Rattle.arena.specs.Soundness.{Rise}
+use Rattle.arena.proofs.Soundness.{Rise}
 use Rattle.arena.specs.Kinds.{size}
-use Rattle.arena.specs.Below.{NodeBelow}
+use Rattle.arena.proofs.Below.{NodeBelow}
 use Rattle.layout.specs.Layout.{stop}
 use Rattle.layout.specs.Listing.{listing}
 use Rattle.layout.specs.Listing.Laws.{listing_stop, listing_more, Entries, entries_rest}

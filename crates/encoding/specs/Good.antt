@@ -2,8 +2,8 @@
 pub mod Laws
 use Rattle.std.specs.Prelude.{◌<◌, length}
 use Rattle.arena.specs.Store.{Store}
-use Rattle.arena.specs.Soundness.{Sound}
-use Rattle.arena.specs.Below.{StoreBelow}
+use Rattle.arena.proofs.Soundness.{Sound}
+use Rattle.arena.proofs.Below.{StoreBelow}
 use Rattle.layout.specs.Layout.{stop}
 use Rattle.layout.specs.Ceilings.{Fits}
 

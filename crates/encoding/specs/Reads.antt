@@ -4,7 +4,7 @@ use Rattle.std.proofs.Common.{sym, ap, ◌∙◌, inl, inr, arith}
 use Rattle.cases.specs.Numbers.{two}
 use Rattle.layout.specs.Layout.{stop, count, used, kind, first, second, parent, state}
 use Rattle.arena.specs.Kinds.{size}
-use Rattle.arena.specs.Kinds.Laws.{room_many}
+use Rattle.arena.proofs.KindsLaws.{room_many}
 use Rattle.arena.specs.Room.{room, pool}
 use Rattle.layout.specs.Listing.Laws.{Entries, listing_size}
 use Rattle.layout.specs.Decode.{node_in, store_in}

@@ -5,11 +5,11 @@ use Prim.Native.Nat.{ℕ, zero, suc, ◌<◌, ◌≤◌, ◌+◌, ◌-◌}
 use native.Mathlib.Omega.{arith}
 use Rattle.cases.specs.Numbers.{two}
 use Rattle.arena.specs.Store.{Node, end, dollar, push}
-use Rattle.arena.specs.Soundness.{Rise, Full}
+use Rattle.arena.proofs.Soundness.{Rise, Full}
 use Rattle.arena.specs.Kinds.{size}
-use Rattle.arena.specs.Below.{NodeBelow}
+use Rattle.arena.proofs.Below.{NodeBelow}
 use Rattle.layout.specs.Layout.{stop}
-use Rattle.work.specs.Heads.{head_state, head_parent, tail, cons, cons_stop, cons_push}
+use Rattle.work.proofs.Heads.{head_state, head_parent, tail, cons, cons_stop, cons_push}
 use Rattle.layout.specs.Listing.{listing}
 use Rattle.layout.specs.Listing.Laws.{Entries, entries_rest, listing_stop, listing_more, stop_last}
 

@@ -9,7 +9,7 @@ use Rattle.layout.specs.Decode.{store_of}
 use Rattle.index.specs.Grow.{index_frame}
 use Rattle.index.specs.Writes.{put_entry}
 use Rattle.interning.specs.Live.{Live}
-use Rattle.work.specs.Heads.{cons}
+use Rattle.work.proofs.Heads.{cons}
 use Rattle.entries.specs.StackAhead.{onto}
 use Rattle.entries.specs.StackEntry.{Under, push_length, push_between, push_under, push_onto, push_entries}
 

@@ -11,7 +11,7 @@ use Rattle.layout.specs.Decode.{node_in, store_of}
 use Rattle.layout.specs.Decode.Laws.{store_node, node_zero, node_one, node_many}
 use Rattle.encoding.specs.Reads.{kind?, array_entries, array_fits}
 use Rattle.store.specs.Asks.{Known}
-use Rattle.work.specs.Heads.{head_state, head_parent}
+use Rattle.work.proofs.Heads.{head_state, head_parent}
 use Rattle.entries.specs.EntriesFrom.{rest, entry_listing}
 use Rattle.entries.specs.declared.pairs.Entry.{Entry}
 

@@ -4,10 +4,10 @@ use Rattle.std.proofs.Math.Path.{sym, ap}
 use Rattle.std.proofs.Common.{◌∙◌, add-one}
 use native.Mathlib.Omega.{arith}
 use Rattle.arena.specs.Store.{Node, end, Store, node_at}
-use Rattle.arena.specs.Soundness.{Rise, Full}
-use Rattle.arena.specs.Below.{NodeBelow}
+use Rattle.arena.proofs.Soundness.{Rise, Full}
+use Rattle.arena.proofs.Below.{NodeBelow}
 use Rattle.arena.specs.Kinds.{size}
-use Rattle.arena.specs.Trees.{node_rise}
+use Rattle.arena.proofs.Trees.{node_rise}
 use Rattle.arena.specs.Place.{intern}
 use Rattle.layout.specs.Layout.{store_words, scratch_words, stop}
 use Rattle.layout.specs.Scratch.{stack_parent, stack_state}
@@ -20,7 +20,7 @@ use Rattle.index.specs.Writes.{put_entry}
 use Rattle.store.specs.Asks.{Known}
 use Rattle.interning.specs.Live.{Live, Pushed, GrewTo, live_sound, live_count, live_length}
 use Rattle.interning.specs.Interned.{More, Interns}
-use Rattle.work.specs.Heads.{head_state, head_parent, cons, tail, cons_stop, cons_push}
+use Rattle.work.proofs.Heads.{head_state, head_parent, cons, tail, cons_stop, cons_push}
 use Rattle.entries.specs.EntriesFrom.{rest, rest_next, rest_size, rest_none, size_full, rest_rise, rest_below, head_rises, head_most, head_older, head_dollar, head_cons}
 use Rattle.entries.specs.StackAhead.{onto_listing}
 use Rattle.entries.specs.StackEntry.{Under, under_le}

@@ -6,7 +6,7 @@ use Rattle.arena.specs.Store.{Node}
 use Rattle.layout.specs.Layout.{stop}
 use Rattle.layout.specs.Listing.{listing}
 use Rattle.layout.specs.Listing.Laws.{listing_stop, listing_more}
-use Rattle.work.specs.Heads.{cons, cons_stop, cons_push}
+use Rattle.work.proofs.Heads.{cons, cons_stop, cons_push}
 
 -- the n entries from place i on, and then x
 unfoldable pub onto : (ℕ → ℕ) → (ℕ → ℕ) → ℕ → ℕ → Node → Node

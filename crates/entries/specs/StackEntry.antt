@@ -8,7 +8,7 @@ use Rattle.layout.specs.Scratch.{stack_parent, stack_state}
 use Rattle.layout.specs.Listing.Laws.{Entries}
 use Rattle.index.specs.Writes.{put_entry}
 use Rattle.index.specs.Grow.{entry_length, entry_below, entry_parent_lem, entry_state_lem}
-use Rattle.work.specs.Heads.{cons}
+use Rattle.work.proofs.Heads.{cons}
 use Rattle.entries.specs.StackAhead.{onto, onto_more, onto_agree}
 
 -- the stack below its place t is as it was

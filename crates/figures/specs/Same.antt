@@ -8,7 +8,7 @@ use Rattle.cases.specs.Bools.{never_both}
 use Rattle.words.specs.Refusals.{number}
 use Rattle.words.specs.declared.refusals.Refusal.{Refusal}
 use Rattle.store.specs.Calls.{zeros, refused as storeRefused}
-use Rattle.store.specs.Told.{number_tells}
+use Rattle.store.proofs.Told.{number_tells}
 use Rattle.store.specs.Checks.{Check, given, unless}
 use Rattle.store.specs.Checks.Laws.{Clear, passed_clear, clear_passed}
 use Rattle.sets.specs.Config.{Config}

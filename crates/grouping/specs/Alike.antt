@@ -2,11 +2,11 @@
 use Rattle.std.specs.Prelude.{◌≡◌, Bool, true, List, [], ◌∷◌, ℕ, ◌+◌, ◌*◌}
 use Rattle.std.proofs.Common.{sym, ◌∙◌, subst, arith}
 use Rattle.encoding.specs.Decide.{same_words}
-use Rattle.encoding.specs.Decide.Laws.{same_words_lem, words_same}
+use Rattle.encoding.proofs.DecideLaws.{same_words_lem, words_same}
 use Rattle.sets.specs.Config.{Config}
 use Rattle.sets.specs.Layout.{config_at}
 use Rattle.setcheck.specs.Keys.{weighed}
-use Rattle.groups.specs.Firsts.{Likeness}
+use Rattle.groups.proofs.Firsts.{Likeness}
 use Rattle.grouping.specs.declared.inner.traits.Alike.{Alike}
 use Rattle.grouping.specs.declared.inner.traits.Alike.TheVariants.{State, Place, Alternative, Triple}
 use Rattle.grouping.specs.declared.inner.traits.Traits.{Traits}

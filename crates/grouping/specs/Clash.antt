@@ -10,7 +10,7 @@ use Rattle.groups.specs.Lists.{Any}
 use Rattle.groups.specs.Groups.{groups}
 use Rattle.groups.specs.Answers.{many}
 use Rattle.groups.specs.Sentences.{AtPlace}
-use Rattle.groups.specs.Conflicts.{any_many}
+use Rattle.groups.proofs.Conflicts.{any_many}
 use Rattle.grouping.specs.Alike.{alike_at}
 use Rattle.grouping.specs.Ways.{place_true, true_place}
 use Rattle.grouping.specs.Places.{some_place, place_some}

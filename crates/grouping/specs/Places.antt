@@ -8,7 +8,7 @@ use Rattle.sets.specs.Config.{Config}
 use Rattle.sets.specs.Layout.{config_at}
 use Rattle.sets.specs.Words.{configs_in}
 use Rattle.groups.specs.Lists.{Any, All}
-use Rattle.groups.specs.Last.{some_last}
+use Rattle.groups.proofs.Last.{some_last}
 
 every_last : {A : Type 0} (P : A → Type 0) (xs : List A) (y : A) → All P (xs ++ (y ∷ [])) ↔ (All P xs × P y)
 every_last P [] y = (λ v. (tt, v.0), λ v. (v.1, tt))

@@ -13,7 +13,7 @@ use Rattle.setcheck.specs.Keys.{key_heads, key_links, key_bucket, place_of}
 use Rattle.setcheck.specs.declared.inner.keys.KeyPlace.{KeyPlace}
 use Rattle.setcheck.specs.declared.inner.keys.KeyPlace.TheVariants.{At, New}
 use Rattle.groups.specs.Groups.{firsts}
-use Rattle.groups.specs.Parts.{firsts_most}
+use Rattle.groups.proofs.Parts.{firsts_most}
 use Rattle.grouping.specs.Alike.{traits_by, alike_of, alike_at, alike_kind}
 use Rattle.grouping.specs.Leads.{before}
 use Rattle.grouping.specs.Led.{leaders_at, members_at, Lent, Led, followed}

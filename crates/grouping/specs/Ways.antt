@@ -6,8 +6,8 @@ use Rattle.sets.specs.Config.{Config}
 use Rattle.cases.specs.Bools.{bool_iff}
 use Rattle.groups.specs.Groups.{together}
 use Rattle.groups.specs.Sentences.{AtPlace}
-use Rattle.groups.specs.Firsts.{together_true, true_together}
-use Rattle.groups.specs.Counted.{one_alt, one_triple, alt_true, true_alt, triple_true, true_triple}
+use Rattle.groups.proofs.Firsts.{together_true, true_together}
+use Rattle.groups.proofs.Counted.{one_alt, one_triple, alt_true, true_alt, triple_true, true_triple}
 use Rattle.grouping.specs.Alike.{alike_of, alike_true, true_alike}
 use Rattle.grouping.specs.declared.inner.traits.Alike.TheVariants.{State, Place, Alternative, Triple}
 

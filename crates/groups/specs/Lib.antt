@@ -4,16 +4,4 @@ pub mod Lists
 pub mod Groups
 pub mod Answers
 pub mod Sentences
-pub mod Rising
-pub mod Firsts
-pub mod Rules
-pub mod Conflicts
-pub mod Equal
-pub mod Single
-pub mod Decided
-pub mod Last
-pub mod Parts
-pub mod Room
-pub mod Counted
-pub mod Renamed
 pub mod Reason

@@ -1,5 +1,4 @@
 -- To believe: why the verdict is what it is (request A6).
-pub mod Laws
 use Rattle.std.specs.Prelude.{◌≡◌, ◌⊎◌, Bool, true, false, List, [], ◌∷◌, ℕ}
 use Rattle.sets.specs.Config.{Config}
 use Rattle.groups.specs.Groups.{Group, groups}

@@ -4,8 +4,8 @@ use Rattle.std.specs.Prelude.{◌≡◌, refl, true, false, [], ◌∷◌, ℕ, 
 use Rattle.std.proofs.Common.{sym, ap, ◌∙◌, arith, eq-eqb, ne_eqb}
 use Rattle.cases.specs.Numbers.{two}
 use Rattle.arena.specs.Store.{Node, Store, node_at, same, find, at, nowhere}
-use Rattle.arena.specs.Soundness.{Sound}
-use Rattle.arena.specs.Trees.{same?, same_true, find_new, find_old}
+use Rattle.arena.proofs.Soundness.{Sound}
+use Rattle.arena.proofs.Trees.{same?, same_true, find_new, find_old}
 use Rattle.index.specs.Hash.{node_hash, hash, bucket_of, hash_new, hash_old, node_hash_agree}
 use Rattle.index.specs.Older.{older, older_all, older_part, older_length, older_next, older_sound}
 

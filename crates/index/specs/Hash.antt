@@ -6,7 +6,7 @@ use Rattle.std.proofs.Common.{arith, eq-eqb, ne_eqb}
 use Rattle.words.specs.Hash.{hash_of, empty_words, singleton_words, array_words}
 use Rattle.words.specs.Hash.Laws.{hash_of_below}
 use Rattle.arena.specs.Store.{Node, end, dollar, push, Store}
-use Rattle.arena.specs.Soundness.{Rise}
+use Rattle.arena.proofs.Soundness.{Rise}
 use Rattle.layout.specs.Layout.{stop}
 
 -- the hashes of the entries' parents, given those of contexts by f, and the entries' states; `$` has parent 0

@@ -3,8 +3,8 @@ use Rattle.std.specs.Prelude.{◌≡◌, refl, true, false, [], ◌∷◌, ℕ, 
 use Rattle.std.proofs.Common.{sym, arith, lt-ltb, le-ltb}
 use Rattle.cases.specs.Numbers.{two}
 use Rattle.arena.specs.Store.{Node, Store, node_at}
-use Rattle.arena.specs.Soundness.{Sound}
-use Rattle.arena.specs.Trees.{node_new, node_old}
+use Rattle.arena.proofs.Soundness.{Sound}
+use Rattle.arena.proofs.Trees.{node_new, node_old}
 
 unfoldable pub older : Store → ℕ → Store
 older [] k = []

@@ -1,7 +1,7 @@
 -- What code may rely on: the first c records of a store's words are sound, and so are entries on the stack. Nothing here has to be believed.
 use Rattle.std.specs.Prelude.{◌≡◌, List, ℕ, ◌<◌, ◌≤◌, ◌+◌, ◌*◌, ◌^◌, length}
 use Rattle.arena.specs.Store.{Node}
-use Rattle.arena.specs.Soundness.{Sound}
+use Rattle.arena.proofs.Soundness.{Sound}
 use Rattle.layout.specs.Layout.{store_words, scratch_words, most_contexts, most_entries, stop, kind, first, second, parent, state}
 use Rattle.layout.specs.Scratch.{low, high, stack_parent, stack_state}
 use Rattle.layout.specs.Listing.{listing}

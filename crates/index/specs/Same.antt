@@ -7,7 +7,7 @@ use native.Mathlib.Omega.{arith}
 use borrow.Author.Tests.{eq-eqb, ne_eqb}
 use Rattle.cases.specs.Numbers.{two}
 use Rattle.arena.specs.Store.{Node, end, dollar, push, same}
-use Rattle.arena.specs.Trees.{same?, same_self}
+use Rattle.arena.proofs.Trees.{same?, same_self}
 use Rattle.arena.specs.Kinds.{size}
 use Rattle.layout.specs.Layout.{kind, first, second, parent, state}
 use Rattle.layout.specs.Scratch.{stack_parent, stack_state}

@@ -4,5 +4,3 @@ pub mod Interned
 pub mod Making
 pub mod SingletonCall
 pub mod Replies
-pub mod Outcomes
-pub mod Promises

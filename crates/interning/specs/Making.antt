@@ -4,12 +4,12 @@ use Rattle.std.proofs.Math.Path.{sym, ap}
 use Rattle.std.proofs.Common.{◌∙◌, subst, arith, add-one}
 use Rattle.std.proofs.Math.ListN.{length}
 use Rattle.arena.specs.Store.{Node, end, push, Store, same, find, at, nowhere}
-use Rattle.arena.specs.Soundness.{Rise, Full}
+use Rattle.arena.proofs.Soundness.{Rise, Full}
 use Rattle.arena.specs.Place.{intern}
-use Rattle.arena.specs.Placed.{intern_found, intern_made, intern_self}
-use Rattle.arena.specs.Trees.{same_true}
+use Rattle.arena.proofs.Placed.{intern_found, intern_made, intern_self}
+use Rattle.arena.proofs.Trees.{same_true}
 use Rattle.arena.specs.Kinds.{size}
-use Rattle.arena.specs.Kinds.Laws.{intern_end, intern_dollar}
+use Rattle.arena.proofs.KindsLaws.{intern_end, intern_dollar}
 use Rattle.arena.specs.Room.{room, pool}
 use Rattle.layout.specs.Layout.{stop, count, used}
 use Rattle.layout.specs.Scratch.{stack_parent, stack_state}
@@ -30,7 +30,7 @@ use Rattle.index.specs.Same.{single_node}
 use Rattle.index.specs.Walk.{hash_held}
 use Rattle.interning.specs.Live.{Live, Pushed, GrewTo, SameAbove, live_count, live_used, live_records, words_live}
 use Rattle.interning.specs.Write.{written_array, written_single}
-use Rattle.arena.specs.Kinds.Laws.{room_many}
+use Rattle.arena.proofs.KindsLaws.{room_many}
 use Rattle.interning.specs.Interned.{More, Missing}
 
 -- nothing is made

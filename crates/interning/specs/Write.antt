@@ -4,7 +4,7 @@ use Rattle.std.proofs.Common.{arith, length-set}
 use Rattle.cases.specs.Numbers.{two}
 use Rattle.arena.specs.Store.{Node, end, dollar, push, Store}
 use Rattle.arena.specs.Kinds.{size}
-use Rattle.arena.specs.Kinds.Laws.{room_many}
+use Rattle.arena.proofs.KindsLaws.{room_many}
 use Rattle.arena.specs.Room.{room, pool}
 use Rattle.layout.specs.Layout.{stop}
 use Rattle.layout.specs.Scratch.{stack_parent, stack_state}

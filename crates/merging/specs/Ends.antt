@@ -4,8 +4,8 @@ use Rattle.std.specs.Prelude.{◌≡◌, refl, [], ◌∷◌, ◌++◌, ℕ, suc
 use Rattle.std.proofs.Common.{ap, ◌∙◌, arith, length-append}
 use Rattle.cases.specs.Numbers.{two}
 use Rattle.arena.specs.Store.{Store, node_at}
-use Rattle.arena.specs.Trees.{node_old}
-use Rattle.arena.specs.Placed.{Grew}
+use Rattle.arena.proofs.Trees.{node_old}
+use Rattle.arena.proofs.Placed.{Grew}
 use Rattle.arena.specs.Room.{room, pool}
 use Rattle.index.specs.Older.{older, older_all, older_part, older_next}
 

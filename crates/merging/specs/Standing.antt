@@ -3,7 +3,7 @@ use Rattle.std.specs.Prelude.{◌≡◌, refl, ◌⊎◌, Bool, true, false, Lis
 use Rattle.std.proofs.Common.{sym, ap, ◌∙◌, inr, arith, eqb-true}
 use Rattle.std.proofs.lemmas.Bool.{eqb-false}
 use Rattle.arena.specs.Store.{Node, node_at}
-use Rattle.arena.specs.Placed.{Grew, grew_trans}
+use Rattle.arena.proofs.Placed.{Grew, grew_trans}
 use Rattle.layout.specs.Layout.{scratch_words, store_words}
 use Rattle.layout.specs.Decode.{store_of}
 use Rattle.layout.specs.Encode.{words_of}
@@ -12,7 +12,7 @@ use Rattle.encoding.specs.Written.{words_length}
 use Rattle.interning.specs.Live.{Live, live_length}
 use Rattle.interning.specs.Interned.{More}
 use Rattle.work.specs.Counted.{State, standing, Outcome, done, refused, and_then, walk, interned, counted}
-use Rattle.work.specs.After.{Good}
+use Rattle.work.proofs.After.{Good}
 use Rattle.cache.specs.Cache.{CacheSound, kept_of, merges_counted}
 use Rattle.cache.specs.Frames.{kept_same}
 use Rattle.entries.specs.StackEntry.{SameStack}

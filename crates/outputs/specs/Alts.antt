@@ -17,11 +17,11 @@ use Rattle.groups.specs.Lists.{Any, In, which}
 use Rattle.groups.specs.Lists.Tests.{any_exact}
 use Rattle.groups.specs.Groups.{insert, rising, alts_of, subset}
 use Rattle.groups.specs.Answers.{many, conflicting_alts}
-use Rattle.groups.specs.Rising.{insert_most, alts_rise, alts_most}
-use Rattle.groups.specs.Rules.{Beside}
-use Rattle.groups.specs.Parts.{which_both}
-use Rattle.groups.specs.Last.{last_yes, last_no, alts_last}
-use Rattle.groups.specs.Conflicts.{Rival, rival_many, many_rival, many_exact, conflicting_configs}
+use Rattle.groups.proofs.Rising.{insert_most, alts_rise, alts_most}
+use Rattle.groups.proofs.Rules.{Beside}
+use Rattle.groups.proofs.Parts.{which_both}
+use Rattle.groups.proofs.Last.{last_yes, last_no, alts_last}
+use Rattle.groups.proofs.Conflicts.{Rival, rival_many, many_rival, many_exact, conflicting_configs}
 use Rattle.grouping.specs.Alike.{alike_of}
 use Rattle.grouping.specs.Places.{place_some}
 use Rattle.grouping.specs.Ways.{place_true, true_place}

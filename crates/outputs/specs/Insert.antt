@@ -15,7 +15,7 @@ use Rattle.cases.specs.Bools.{never_both}
 use Rattle.groups.specs.Lists.{All, Rising}
 use Rattle.groups.specs.Lists.Laws.{every_map}
 use Rattle.groups.specs.Groups.{insert}
-use Rattle.groups.specs.Rising.{insert_less, insert_equal, insert_greater}
+use Rattle.groups.proofs.Rising.{insert_less, insert_equal, insert_greater}
 use Rattle.outputs.specs.Outputs.{padded}
 
 -- n words from place f on

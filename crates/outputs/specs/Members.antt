@@ -14,9 +14,9 @@ use Rattle.cases.specs.Bools.{bool?, is_false, never_both}
 use Rattle.sets.specs.Words.{configs_in}
 use Rattle.groups.specs.Lists.{which}
 use Rattle.groups.specs.Groups.{insert, rising, alts_of, together, subset}
-use Rattle.groups.specs.Firsts.{together_kind}
-use Rattle.groups.specs.Rising.{insert_least, alts_rise}
-use Rattle.groups.specs.Last.{last_yes, last_no, alts_last}
+use Rattle.groups.proofs.Firsts.{together_kind}
+use Rattle.groups.proofs.Rising.{insert_least, alts_rise}
+use Rattle.groups.proofs.Last.{last_yes, last_no, alts_last}
 use Rattle.grouping.specs.Alike.{alike_at}
 use Rattle.grouping.specs.Ways.{same_places}
 use Rattle.grouping.specs.Leads.{FirstAlike, Next, Follows}

@@ -14,8 +14,8 @@ use Rattle.cases.specs.Bools.{bool?}
 use Rattle.sets.specs.Words.{configs_in}
 use Rattle.sets.specs.Listed.{configs_length, at_any, none_any}
 use Rattle.groups.specs.Groups.{Group, together, firsts, subset, groups}
-use Rattle.groups.specs.Room.{groups_fit, groups_most}
-use Rattle.groups.specs.Last.{firsts_new, firsts_old}
+use Rattle.groups.proofs.Room.{groups_fit, groups_most}
+use Rattle.groups.proofs.Last.{firsts_new, firsts_old}
 use Rattle.grouping.specs.Alike.{alike_at}
 use Rattle.grouping.specs.Leads.{FirstAlike}
 use Rattle.grouping.specs.Clash.{configs_of}

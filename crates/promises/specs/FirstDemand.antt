@@ -10,23 +10,23 @@ use Rattle.arena.specs.Store.{Store, at}
 use Rattle.arena.specs.Room.{pool}
 use Rattle.layout.specs.Layout.{store_words, scratch_words, most_contexts, most_entries, stop, count as contexts}
 use Rattle.encoding.specs.Decide.{fits}
-use Rattle.encoding.specs.Decide.Laws.{fits_true, true_fits}
+use Rattle.encoding.proofs.DecideLaws.{fits_true, true_fits}
 use Rattle.store.specs.Checks.{Check, order, due}
 use Rattle.store.specs.Checks.Laws.{in_order_lem}
 use Rattle.store.specs.Calls as Stores
 use Rattle.store.specs.Calls.{wrong_length, unknown_context, too_much_work, no_room, ask_checks, fresh_call}
 use Rattle.work.specs.Counted as Work
 use Rattle.work.specs.Counted.{Outcome}
-use Rattle.work.specs.Counted.Laws.{too_much_lem, is_too_much}
-use Rattle.store.specs.Told.{fresh_refused_exactly, fresh_refused_leaves}
+use Rattle.work.proofs.CountedLaws.{too_much_lem, is_too_much}
+use Rattle.store.proofs.Told.{fresh_refused_exactly, fresh_refused_leaves}
 use Rattle.interning.specs.SingletonCall.{singleton_checks, singleton_call}
-use Rattle.interning.specs.Promises.{singleton_refused_exactly, singleton_refused_leaves}
-use Rattle.interning.specs.Promises as Singles
+use Rattle.interning.proofs.Promises.{singleton_refused_exactly, singleton_refused_leaves}
+use Rattle.interning.proofs.Promises as Singles
 use Rattle.contexts.specs.MergeCall.{merge_checks, merge_call}
 use Rattle.contexts.specs.Promises.{merge_refused_exactly, merge_refused_leaves}
 use Rattle.contexts.specs.Promises as Merges
 use Rattle.queries.specs.Queries.{Question, query_call}
-use Rattle.queries.specs.Refused.{query_refused_exactly, query_refused_leaves, ask_in_order}
+use Rattle.queries.proofs.Refused.{query_refused_exactly, query_refused_leaves, ask_in_order}
 use Rattle.sets.specs.Lists.{any}
 use Rattle.sets.specs.Layout.{most_configs, set_words_length, config_at, config_count, flag}
 use Rattle.sets.specs.Sets.{key, same_keys}
@@ -34,11 +34,11 @@ use Rattle.sets.specs.Words.{set_of, SoundSet}
 use Rattle.sets.specs.Config.{Config}
 use Rattle.sets.specs.Calls as Sets
 use Rattle.sets.specs.Calls.{lent_lengths, lent_checks, add_checks, fresh_set_call, add_call, close_call}
-use Rattle.sets.specs.Refusals.{add_refused_exactly, add_refused_leaves, close_refused_exactly, close_refused_leaves}
-use Rattle.sets.specs.Refusals as SetRefusals
-use Rattle.sets.specs.Refusals.{full_exactly}
+use Rattle.sets.proofs.Refusals.{add_refused_exactly, add_refused_leaves, close_refused_exactly, close_refused_leaves}
+use Rattle.sets.proofs.Refusals as SetRefusals
+use Rattle.sets.proofs.Refusals.{full_exactly}
 use Rattle.promises.specs.Words.{fails, two_hold}
-use Rattle.sets.specs.Refusals.{fresh_refused_exactly as fresh-set-exactly, fresh_refused_leaves as fresh-set-leaves}
+use Rattle.sets.proofs.Refusals.{fresh_refused_exactly as fresh-set-exactly, fresh_refused_leaves as fresh-set-leaves}
 use Rattle.outputs.specs.Outputs.{subsets_length, alts_length}
 use Rattle.verdicts.specs.Calls as Verdicts
 use Rattle.verdicts.specs.Calls.{read_refusal, read_checks, conflicting_alt_subsets_call, conflicting_alts_call, unique_alt_call, single_viable_alt_call}

@@ -12,7 +12,7 @@ use Rattle.store.specs.Calls.{Accepts}
 use Rattle.contexts.specs.MergeCall.{merge_call}
 use Rattle.contexts.specs.Promises.{itself}
 use Rattle.runs.specs.Runs.{Event, merged, placed, Run}
-use Rattle.runs.specs.MergeLaws as Laws
+use Rattle.runs.proofs.MergeLaws as Laws
 
 -- "merging with itself gives the same number", and makes nothing
 pub with_itself : (w z : List ℕ) (a : ℕ) (m : Bool) (c : ℕ) (v : List ℕ) → Accepts (merge_call w z a a m) c v → (c ≡ a) × (v ≡ w)

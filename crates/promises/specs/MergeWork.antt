@@ -10,7 +10,7 @@ use Rattle.sets.specs.Config.{Config}
 use Rattle.sets.specs.Layout.{config_at, config_count, flag}
 use Rattle.sets.specs.Sets.{key}
 use Rattle.sets.specs.Calls.{Adds, add_call}
-use Rattle.configs.specs.Sentences.{merged_call}
+use Rattle.configs.proofs.Sentences.{merged_call}
 
 -- "The count is returned and equals that of the definition. Above 65,536 the call is refused"
 pub merge_counted : (w z : List ℕ) (a b : ℕ) (m : Bool) (c : ℕ) (w' : List ℕ) → Accepts (merge_call w z a b m) c w'

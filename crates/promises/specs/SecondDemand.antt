@@ -11,54 +11,54 @@ use Rattle.stacks.specs.Forest.{Forest, over, mem}
 use Rattle.stacks.specs.Forest as Forests
 use Rattle.stacks.specs.Merge.{merge_t}
 use Rattle.stacks.specs.Rules.{Stacks, WildcardMerge}
-use Rattle.stacks.specs.Rules.Laws.{wildcard_determined}
+use Rattle.stacks.proofs.RulesLaws.{wildcard_determined}
 use Rattle.arena.specs.Store.{end, dollar, Store, tree_of, tree, node_at}
-use Rattle.arena.specs.Trees.{tree_node}
+use Rattle.arena.proofs.Trees.{tree_node}
 use Rattle.arena.specs.Place.{intern}
 use Rattle.arena.specs.Kinds.{size}
-use Rattle.arena.specs.Kinds.Laws.{intern_end, intern_dollar}
+use Rattle.arena.proofs.KindsLaws.{intern_end, intern_dollar}
 use Rattle.arena.specs.Stands.{stands}
 use Rattle.arena.specs.Numbering.{parts, Joins}
-use Rattle.arena.specs.Numbering.Laws.{joins_determined}
-use Rattle.arena.specs.Identity.{finite_stacks, some_stack, root_stands}
+use Rattle.arena.proofs.NumberingLaws.{joins_determined}
+use Rattle.arena.proofs.Identity.{finite_stacks, some_stack, root_stands}
 use Rattle.layout.specs.Layout.{store_words, scratch_words, stop, blank, count as contexts, kind, first, second, state}
 use Rattle.layout.specs.Decode.{store_of}
 use Rattle.layout.specs.Encode.{words_of}
 use Rattle.layout.specs.Sound.{SoundWords}
 use Rattle.encoding.specs.Decide.{sound}
-use Rattle.encoding.specs.Decide.Laws.{sound_true, true_sound}
+use Rattle.encoding.proofs.DecideLaws.{sound_true, true_sound}
 use Rattle.encoding.specs.Decoded.{decoded}
 use Rattle.store.specs.Calls as Stores
 use Rattle.store.specs.Calls.{zeros, leaves, Accepts, fresh_call}
-use Rattle.store.specs.FreshWords.{fresh_goes, fresh_count}
-use Rattle.store.specs.Told.{fresh_sound}
+use Rattle.store.proofs.FreshWords.{fresh_goes, fresh_count}
+use Rattle.store.proofs.Told.{fresh_sound}
 use Rattle.interning.specs.SingletonCall.{singleton_call}
-use Rattle.interning.specs.Promises.{mark_answers_0, single_stands, single_sound_after, single_numbers}
+use Rattle.interning.proofs.Promises.{mark_answers_0, single_stands, single_sound_after, single_numbers}
 use Rattle.contexts.specs.MergeCall.{merge_call}
 use Rattle.contexts.specs.Promises.{merge_by_wildcard, merge_sound_after, merge_numbers_after}
 use Rattle.queries.specs.Queries.{Question, entry_count, entry_state, entry_parent, answer_to, query_call}
-use Rattle.queries.specs.Sentences as Asked
+use Rattle.queries.proofs.Sentences as Asked
 use Rattle.sets.specs.Layout.{set_words_length, config_at, config_count, flag}
 use Rattle.sets.specs.Config.{Config}
 use Rattle.sets.specs.Sets.{key}
 use Rattle.sets.specs.Words.{set_of, SoundSet, sound_set, bit}
-use Rattle.sets.specs.Sound.{sound_set_true, true_sound_set}
+use Rattle.sets.proofs.Sound.{sound_set_true, true_sound_set}
 use Rattle.sets.specs.Calls as Sets
 use Rattle.sets.specs.Calls.{Adds, fresh_set_call, add_call, close_call}
-use Rattle.configs.specs.Sentences as Added
+use Rattle.configs.proofs.Sentences as Added
 use Rattle.groups.specs.Lists.{All}
 use Rattle.groups.specs.Groups.{Group, groups}
 use Rattle.groups.specs.Answers as Answers
 use Rattle.groups.specs.Answers.{none, conflicting_alts, unique_alt, single_viable_alt, all_subsets_conflict, all_subsets_equal}
 use Rattle.groups.specs.Sentences.{Subsets, Many, ConflictUnion, AllEqual, Viable, Unique, Says, VerdictYes}
-use Rattle.groups.specs.Rules.{groups_unique}
-use Rattle.groups.specs.Room.{groups_fit, conflicting_most}
+use Rattle.groups.proofs.Rules.{groups_unique}
+use Rattle.groups.proofs.Room.{groups_fit, conflicting_most}
 use Rattle.outputs.specs.Outputs.Laws.{all_words}
 use Rattle.sets.specs.Listed.{configs_length}
-use Rattle.groups.specs.Single.{unique_says, viable_says}
-use Rattle.groups.specs.Conflicts.{conflict_exact}
-use Rattle.groups.specs.Equal.{equal_exact}
-use Rattle.groups.specs.Decided.{verdict_exact, verdict_empty, conflict_empty, equal_empty, viable_empty, unique_empty}
+use Rattle.groups.proofs.Single.{unique_says, viable_says}
+use Rattle.groups.proofs.Conflicts.{conflict_exact}
+use Rattle.groups.proofs.Equal.{equal_exact}
+use Rattle.groups.proofs.Decided.{verdict_exact, verdict_empty, conflict_empty, equal_empty, viable_empty, unique_empty}
 use Rattle.outputs.specs.Outputs.{subsets_length, alts_length, padded, group_words}
 use Rattle.verdicts.specs.Calls.{alternative, says, most_stops, conflicting_alt_subsets_call, conflicting_alts_call, unique_alt_call, single_viable_alt_call}
 use Rattle.verdicts.specs.Calls.{all_subsets_conflict_call, all_subsets_equal_call, too_many_stops, verdict_call, VerdictLeft}

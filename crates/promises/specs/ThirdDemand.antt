@@ -8,15 +8,15 @@ use Rattle.layout.specs.Decode.{store_of}
 use Rattle.encoding.specs.Decide.{sound}
 use Rattle.store.specs.Calls.{Accepts}
 use Rattle.interning.specs.SingletonCall.{singleton_call}
-use Rattle.interning.specs.Promises.{single_older_kept}
+use Rattle.interning.proofs.Promises.{single_older_kept}
 use Rattle.contexts.specs.MergeCall.{merge_call}
 use Rattle.contexts.specs.Promises.{equal_exactly, merge_is_union, older_kept, sides_exchanged}
 use Rattle.runs.specs.Runs.{Event, Run, SameContexts, Answers}
-use Rattle.runs.specs.Growth.{run_grows}
-use Rattle.runs.specs.Grouping.{one_number}
+use Rattle.runs.proofs.Growth.{run_grows}
+use Rattle.runs.proofs.Grouping.{one_number}
 use Rattle.readers.specs.Calls.{Call, Lent, Sized}
 use Rattle.readers.specs.Runs.{By, run, only, Roomy}
-use Rattle.readers.specs.Alone.{as_if_alone}
+use Rattle.readers.proofs.Alone.{as_if_alone}
 
 -- "In a sound store two numbers are equal exactly when they stand for the same stacks"
 pub equal_exactly_by_stacks : (w : List ℕ) → length w ≡ store_words → sound w ≡ true → (a b : ℕ) → a < contexts w → b < contexts w

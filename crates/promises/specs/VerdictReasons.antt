@@ -5,7 +5,7 @@ use Rattle.sets.specs.Config.{Config}
 use Rattle.sets.specs.Words.{set_of}
 use Rattle.groups.specs.Reason as Reasons
 use Rattle.groups.specs.Reason.{Reason, Holds, NoEarlier}
-use Rattle.groups.specs.Reason.Laws.{reason_forces, reason_unique}
+use Rattle.groups.proofs.ReasonLaws.{reason_forces, reason_unique}
 use Rattle.groups.specs.Answers.{verdict}
 use Rattle.verdicts.specs.Calls.{because, says, verdict_call}
 use Rattle.reasons.specs.Calls.{reason_words, why_call}

@@ -3,7 +3,7 @@
 -- result, whole." They follow from document 01's sentences on the merge. Nothing here has to be believed but what the statements say.
 use Rattle.std.specs.Prelude.{◌≡◌, ◌↔◌, true, false, ◌||◌, List, ℕ}
 use Rattle.stacks.specs.Losses.{BeginsWith, EndsAt}
-use Rattle.stacks.specs.Losses.Laws as Losses
+use Rattle.stacks.proofs.LossesLaws as Losses
 use Rattle.arena.specs.Stands.{stands}
 use Rattle.arena.specs.Store.{tree}
 use Rattle.layout.specs.Decode.{store_of}

@@ -3,7 +3,7 @@ use Rattle.std.specs.Prelude.{◌≡◌, ◌↔◌, Bool, true, not, ◌&&◌, L
 use Rattle.std.proofs.Math.Path.{refl}
 use Rattle.std.proofs.Common.{sym, ap, ◌∙◌, eq-eqb, lt-ltb}
 use Rattle.std.proofs.lemmas.Bool.{not-true}
-use Rattle.arena.specs.Soundness.{Sound}
+use Rattle.arena.proofs.Soundness.{Sound}
 use Rattle.layout.specs.Layout.{store_words, scratch_words, count as contexts}
 use Rattle.layout.specs.Sound.{SoundWords}
 use Rattle.layout.specs.Decode.{store_of}
@@ -11,7 +11,7 @@ use Rattle.layout.specs.Decode.Laws.{store_length}
 use Rattle.encoding.specs.Good.{GoodStore}
 use Rattle.encoding.specs.Decoded.{decoded}
 use Rattle.encoding.specs.Decide.{sound}
-use Rattle.encoding.specs.Decide.Laws.{sound_true}
+use Rattle.encoding.proofs.DecideLaws.{sound_true}
 use Rattle.store.specs.Asks.{Known}
 use Rattle.cases.specs.Bools.{bool?, never_both, and_left, and_right, both_true}
 use Rattle.cases.specs.Numbers.{never}
@@ -23,7 +23,7 @@ use Rattle.sets.specs.Words.{SoundSet}
 use Rattle.sets.specs.Config.{Config}
 use Rattle.sets.specs.Calls.{SetReply, refused, done, SetLeft, set_left, set_left_after, lent_lengths, lent_checks, close_call}
 use Rattle.sets.specs.Calls.{refusal as setRefusal}
-use Rattle.sets.specs.Refusals.{SoundLent, refusal_reply}
+use Rattle.sets.proofs.Refusals.{SoundLent, refusal_reply}
 
 pub good : (w : List ℕ) → length w ≡ store_words → sound w ≡ true → GoodStore (store_of w)
 good w l s = (decoded w l (sound_true w l s)).0

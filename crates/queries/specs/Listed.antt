@@ -6,7 +6,7 @@ use Rattle.words.specs.Compact.Laws.{expanded_mark, expanded_state}
 use Rattle.cases.specs.Numbers.{two}
 use Rattle.arena.specs.Store.{Node, end, dollar, push, Store}
 use Rattle.arena.specs.Kinds.{size}
-use Rattle.arena.specs.Identity.{entries_stand}
+use Rattle.arena.proofs.Identity.{entries_stand}
 use Rattle.layout.specs.Layout.{stop}
 use Rattle.layout.specs.Listing.Laws.{Entries, listing_stop, listing_more, entries_rest, stop_last}
 use Rattle.layout.specs.Listing.{listing}

@@ -3,12 +3,3 @@
 -- Examples: two readers whose numbers differ, shared and alone, and who see the same.
 pub mod Calls
 pub mod Runs
-pub mod Programs
-pub mod Pure
-pub mod Kept
-pub mod Alike
-pub mod Twins
-pub mod Turns
-pub mod Alone
-pub mod Deciding
-pub mod Examples

@@ -15,11 +15,11 @@ use Rattle.groups.specs.Lists.Tests.{any_exact}
 use Rattle.groups.specs.Groups.{together, subset, groups}
 use Rattle.groups.specs.Answers.{many, stopped, just_one}
 use Rattle.groups.specs.Sentences.{Many, Conflict, JustOne}
-use Rattle.groups.specs.Rules.{Beside, subset_same}
-use Rattle.groups.specs.Conflicts.{many_exact, Rival, many_rival, rival_many, conflict_groups}
-use Rattle.groups.specs.Decided.{stopped_exact, just_exact}
+use Rattle.groups.proofs.Rules.{Beside, subset_same}
+use Rattle.groups.proofs.Conflicts.{many_exact, Rival, many_rival, rival_many, conflict_groups}
+use Rattle.groups.proofs.Decided.{stopped_exact, just_exact}
 use Rattle.groups.specs.Reason.{Reason, stop, none, one, clash, reason, FirstOf, Holds, NoEarlier}
-use Rattle.groups.specs.Reason.Laws.{first_some, reason_stop, reason_is}
+use Rattle.groups.proofs.ReasonLaws.{first_some, reason_stop, reason_is}
 use Rattle.grouping.specs.Alike.{alike_of, alike_at}
 use Rattle.grouping.specs.Ways.{same_places, same_states}
 use Rattle.grouping.specs.Places.{place_some, some_place}

@@ -8,8 +8,8 @@ use Rattle.sets.specs.Layout.{config_at, config_count, most_configs}
 use Rattle.sets.specs.Listed.{configs_length}
 use Rattle.groups.specs.Lists.{which}
 use Rattle.groups.specs.Groups.{together, subset}
-use Rattle.groups.specs.Rising.{alts_most}
-use Rattle.groups.specs.Parts.{which_both}
+use Rattle.groups.proofs.Rising.{alts_most}
+use Rattle.groups.proofs.Parts.{which_both}
 use Rattle.grouping.specs.Alike.{alike_at}
 use Rattle.grouping.specs.Leads.{FirstAlike, leads_one}
 use Rattle.grouping.specs.Clash.{configs_of}

@@ -11,10 +11,10 @@ use Rattle.sets.specs.Words.{configs_in}
 use Rattle.groups.specs.Lists.{All, which}
 use Rattle.groups.specs.Lists.Tests.{which_yes, which_no}
 use Rattle.groups.specs.Groups.{Group, together, firsts, subset, groups}
-use Rattle.groups.specs.Rules.{subset_same}
+use Rattle.groups.proofs.Rules.{subset_same}
 use Rattle.groups.specs.Sentences.{Many}
 use Rattle.groups.specs.Reason.{FirstOf}
-use Rattle.groups.specs.Reason.Laws.{first_some}
+use Rattle.groups.proofs.ReasonLaws.{first_some}
 use Rattle.grouping.specs.Places.{place_every}
 
 -- ---- by place

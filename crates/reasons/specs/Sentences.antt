@@ -13,7 +13,7 @@ use Rattle.sets.specs.Calls.{lent_lengths, lent_checks}
 use Rattle.groups.specs.Answers as Answers
 use Rattle.groups.specs.Reason.{Reason, reason, Holds, NoEarlier}
 use Rattle.groups.specs.Reason as Reasons
-use Rattle.groups.specs.Reason.Laws.{reason_holds, reason_first, reason_forces}
+use Rattle.groups.proofs.ReasonLaws.{reason_holds, reason_first, reason_forces}
 use Rattle.outputs.specs.Outputs.{alts_length}
 use Rattle.verdicts.specs.Calls.{refused, says, because, VerdictLeft, verdict_left, read_refusal, read_checks, read_call, too_many_stops, verdict_call}
 use Rattle.verdicts.specs.Refused.{refusal_reply, ask_refuses, Refuses}

@@ -7,7 +7,7 @@ use Rattle.sets.specs.Layout.{config_at, config_count, most_configs, set_words_l
 use Rattle.groups.specs.Groups.{subset}
 use Rattle.groups.specs.Answers.{stopped}
 use Rattle.groups.specs.Reason.{Reason, stop, none, one, clash, reason}
-use Rattle.groups.specs.Reason.Laws.{reason_stop}
+use Rattle.groups.proofs.ReasonLaws.{reason_stop}
 use Rattle.grouping.specs.Clash.{configs_of}
 use Rattle.grouping.specs.Led.{Lent}
 use Rattle.grouping.specs.FirstMarked.{FirstPicked}

@@ -3,7 +3,7 @@ use Rattle.std.specs.Prelude.{◌≡◌, refl, Bool, true, false, List, ◌∷�
 use Rattle.std.proofs.Common.{sym, ap, ◌∙◌, arith}
 use Rattle.cases.specs.Numbers.{two}
 use Rattle.arena.specs.Store.{find, nowhere}
-use Rattle.arena.specs.Soundness.{Rise, Full}
+use Rattle.arena.proofs.Soundness.{Rise, Full}
 use Rattle.layout.specs.Layout.{scratch_words, most_entries, stop, kind, first, second, parent, state}
 use Rattle.layout.specs.Scratch.{stack_parent, stack_state}
 use Rattle.layout.specs.Listing.Laws.{Entries, listing_rise, listing_full}

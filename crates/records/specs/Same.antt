@@ -9,7 +9,7 @@ use Rattle.store.specs.Checks.Laws.{clear_passed}
 use Rattle.sets.specs.Config.{Config}
 use Rattle.sets.specs.Words.{set_of}
 use Rattle.sets.specs.Calls.{lent_lengths, lent_checks}
-use Rattle.sets.specs.Refusals.{SoundLent, lent_clear}
+use Rattle.sets.proofs.Refusals.{SoundLent, lent_clear}
 use Rattle.setcheck.specs.Configs.{config_of}
 use Rattle.setcheck.specs.declared.config.AtnConfig.{AtnConfig}
 use Rattle.groups.specs.Answers.{unique_alt}

@@ -1,8 +1,3 @@
 -- Runs of accepted calls in one store. To believe: Runs. The theorem: `one_number` of Grouping, demand 3's last sentence.
 -- Beside it the laws of MergeLaws, which merges are regrouped by.
 pub mod Runs
-pub mod Growth
-pub mod Grouping
-pub mod InTurn
-pub mod Held
-pub mod MergeLaws

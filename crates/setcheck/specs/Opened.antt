@@ -21,7 +21,7 @@ use Rattle.store.specs.declared.inner.admit.Admitted.TheVariants.{Ready as ready
 use Rattle.cases.specs.Bools.{bool?}
 use Rattle.sets.specs.Layout.{set_words_length, config_count}
 use Rattle.sets.specs.Words.{SoundSet}
-use Rattle.sets.specs.Sound.{true_sound_set, sound_set_false}
+use Rattle.sets.proofs.Sound.{true_sound_set, sound_set_false}
 use Rattle.store.specs.Checks.Laws.{Due, Clear}
 use Rattle.sets.specs.Calls.{refused, set_left, refusal, lent_lengths, lent_checks}
 use Rattle.setcheck.specs.Keys.{Keyed}

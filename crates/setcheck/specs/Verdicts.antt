@@ -12,7 +12,7 @@ use Rattle.sets.specs.Layout.{most_configs, config_words, first_config, set_word
 use Rattle.sets.specs.Sets.{empty_set, with_configs, has_semantic, dips}
 use Rattle.sets.specs.Words.{flags_of, configs_in, set_of, SoundSet}
 use Rattle.sets.specs.Flags.{four, flags_are, four_of, four_second, four_third, four_middle}
-use Rattle.sets.specs.Sound.{semantic_at, at_semantic, dips_at, at_dips, sound_flags}
+use Rattle.sets.proofs.Sound.{semantic_at, at_semantic, dips_at, at_dips, sound_flags}
 use Rattle.sets.specs.Chains.{chain_empty}
 use Rattle.setcheck.specs.Keys.{key_heads, key_links, Keyed}
 use Rattle.setcheck.specs.Judged.{SameIndex, GoodConfig, PassedConfigs, Gathered, JudgedConfigs, SetVerdict}

@@ -9,7 +9,3 @@ pub mod Chains
 pub mod Flags
 pub mod Listed
 pub mod Held
-pub mod Sound
-pub mod Joined
-pub mod Kept
-pub mod Refusals

@@ -3,7 +3,6 @@ pub mod Forest
 pub mod Canon
 pub mod Beneath
 pub mod Merge
-pub mod Algebra
 pub mod Rules
 pub mod Finite
 pub mod Losses

@@ -1,6 +1,4 @@
 -- To believe: how a stack begins, and where a set of stacks ends. A stack is read from its top.
-pub mod Laws
-pub mod Examples
 use Rattle.std.specs.Prelude.{List, [], ◌∷◌, ℕ}
 use Rattle.stacks.specs.Rules.{Stacks, OnlyEmpty, beneath}
 

@@ -1,5 +1,4 @@
 -- To believe: the two merges of sets of stacks, as one definition over the mode: `false` is full-context, `true` is by wildcard.
-pub mod Laws
 use Rattle.std.specs.Prelude.{Bool, true, false, ◌&&◌, ◌||◌, ltb}
 use Rattle.stacks.specs.Forest.{Forest, none, mark, over}
 

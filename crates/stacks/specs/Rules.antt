@@ -1,5 +1,4 @@
 -- To believe: document 01's sentences on the wildcard merge, about membership alone. The full-context merge is the union.
-pub mod Laws
 use Rattle.std.specs.Prelude.{◌≡◌, ◌⊎◌, Bool, true, false, ◌||◌, List, [], ◌∷◌, ℕ}
 
 -- a set of stacks, by which stacks are in it

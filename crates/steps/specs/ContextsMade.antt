@@ -1,5 +1,4 @@
 -- To believe: how many contexts a step of a script makes, and the sum of these figures over a whole script (request A3).
-pub mod Laws
 use Rattle.std.specs.Prelude.{List, ℕ, zero, suc, ◌+◌, ◌-◌, length}
 use Rattle.layout.specs.Layout.{count as contexts}
 use Rattle.replies.specs.Replies.{Lent, Printed}

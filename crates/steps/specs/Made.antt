@@ -19,7 +19,7 @@ use Rattle.sets.specs.Calls.{done as setDone}
 use Rattle.lines.specs.Laid.{laid}
 use Rattle.lines.specs.Laid.Laws.{length_laid, take_laid}
 use Rattle.lines.specs.Lines.{end_line}
-use Rattle.store.specs.FreshWords.{fresh_goes}
+use Rattle.store.proofs.FreshWords.{fresh_goes}
 use Rattle.steps.specs.declared.run.Ran.{Ran}
 use Rattle.steps.specs.Answers.{after_of, wrote_of, Behind, behind, laid_out}
 use Rattle.replies.specs.Replies.{Lent, lent, Printed}

@@ -8,7 +8,7 @@ use Rattle.words.specs.declared.refusals.Refusal.{Refusal}
 use Rattle.words.specs.declared.refusals.Refusal.TheVariants.{UnknownContext}
 use Rattle.layout.specs.Layout.{store_words, scratch_words, blank, count}
 use Rattle.layout.specs.Sound.{SoundWords}
-use Rattle.encoding.specs.Decide.Laws.{sound_false, true_sound}
+use Rattle.encoding.proofs.DecideLaws.{sound_false, true_sound}
 use Rattle.recordcheck.specs.Check.{Ready}
 use Rattle.store.specs.Calls.{refused, Left, leaves, zeros, kept}
 use Rattle.store.specs.Nested.{if_lengths, if_sound, if_known, checked}

@@ -4,5 +4,3 @@ pub mod Nested
 pub mod Admit
 pub mod Asks
 pub mod Renewed
-pub mod FreshWords
-pub mod Told

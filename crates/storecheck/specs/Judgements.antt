@@ -7,8 +7,8 @@ use Rattle.words.specs.Hash.{hash_of, empty_words}
 use Rattle.words.specs.Lent.{all_zero, cleared_range}
 use Rattle.words.specs.Lent.Laws.{all_zero_at, all_zero_of}
 use Rattle.arena.specs.Store.{dollar, find}
-use Rattle.arena.specs.Soundness.{Sound}
-use Rattle.arena.specs.Trees.{nodes_differ}
+use Rattle.arena.proofs.Soundness.{Sound}
+use Rattle.arena.proofs.Trees.{nodes_differ}
 use Rattle.arena.specs.Room.{pool}
 use Rattle.layout.specs.Layout.{store_words, scratch_words, count, used, kind, first, second, parent, state}
 use Rattle.layout.specs.Decode.{node_in, store_in, store_of}

@@ -2,6 +2,5 @@
 pub mod Calls
 pub mod Replies
 pub mod Refused
-pub mod Determined
 pub mod Opened
 pub mod Sentences

@@ -11,16 +11,16 @@ use Rattle.sets.specs.Words.{set_of}
 use Rattle.store.specs.Checks.{Check, given, unless}
 use Rattle.store.specs.Checks.Laws.{Clear, clear_goes}
 use Rattle.sets.specs.Calls.{lent_lengths, lent_checks}
-use Rattle.sets.specs.Refusals.{SoundLent, lent_clear}
+use Rattle.sets.proofs.Refusals.{SoundLent, lent_clear}
 use Rattle.groups.specs.Lists.{All}
 use Rattle.groups.specs.Groups.{groups}
 use Rattle.groups.specs.Answers.{Answer, none, only, conflicting_alts, all_subsets_conflict, all_subsets_equal, single_viable_alt, unique_alt, verdict}
 use Rattle.groups.specs.Sentences.{Subsets, Many, ConflictUnion, AllEqual, Viable, Unique, VerdictYes}
-use Rattle.groups.specs.Rules.{subsets}
-use Rattle.groups.specs.Conflicts.{conflict_exact, conflicting_union}
-use Rattle.groups.specs.Equal.{equal_exact}
-use Rattle.groups.specs.Single.{unique_says, viable_says}
-use Rattle.groups.specs.Decided.{verdict_exact}
+use Rattle.groups.proofs.Rules.{subsets}
+use Rattle.groups.proofs.Conflicts.{conflict_exact, conflicting_union}
+use Rattle.groups.proofs.Equal.{equal_exact}
+use Rattle.groups.proofs.Single.{unique_says, viable_says}
+use Rattle.groups.proofs.Decided.{verdict_exact}
 use Rattle.outputs.specs.Outputs.{subsets_length, alts_length, padded, group_words, subsets_words, alts_words}
 use Rattle.verdicts.specs.Calls.{VerdictReply, says, alternative, written, VerdictLeft, verdict_left, read_refusal, read_call, most_stops}
 use Rattle.verdicts.specs.Calls.{conflicting_alt_subsets_call, conflicting_alts_call, unique_alt_call, single_viable_alt_call, all_subsets_conflict_call, all_subsets_equal_call, verdict_call}

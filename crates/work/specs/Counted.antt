@@ -1,5 +1,4 @@
 -- To believe: the merge of two contexts by a call's steps: which merges count, which results are kept, and which ceiling is reached first.
-pub mod Laws
 use Rattle.std.specs.Prelude.{Bool, true, false, ◌&&◌, ◌||◌, List, [], ◌∷◌, ℕ, zero, suc, ◌+◌, min, max, eqb, ltb, length}
 use Rattle.std.specs.Bool.{beq}
 use Rattle.arena.specs.Store.{Node, end, dollar, push, Store, node_at, Found, at, nowhere}

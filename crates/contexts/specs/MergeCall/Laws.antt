@@ -11,19 +11,19 @@ use Rattle.words.specs.Refusals.{number}
 use Rattle.words.specs.declared.refusals.Refusal.{Refusal}
 use Rattle.arena.specs.Store.{Store}
 use Rattle.arena.specs.Room.{pool}
-use Rattle.arena.specs.Soundness.{Sound}
+use Rattle.arena.proofs.Soundness.{Sound}
 use Rattle.arena.specs.Place.{merge_s}
-use Rattle.arena.specs.Steps.{merge_sides}
+use Rattle.arena.proofs.Steps.{merge_sides}
 use Rattle.layout.specs.Layout.{count, used}
 use Rattle.layout.specs.Decode.{store_of}
 use Rattle.layout.specs.Encode.{words_of}
 use Rattle.layout.specs.Ceilings.{Fits}
 use Rattle.encoding.specs.Decide.{fits}
-use Rattle.encoding.specs.Decide.Laws.{true_fits, fits_false}
+use Rattle.encoding.proofs.DecideLaws.{true_fits, fits_false}
 use Rattle.encoding.specs.Cut.{cut, cut_back}
 use Rattle.index.specs.Grow.{index_frame}
 use Rattle.work.specs.Counted.{Outcome, done, refused as over, State, standing, counted, counting, too_much, count_of}
-use Rattle.work.specs.Theorems.{answer_is, answer_fits, refusal_is, sides_exchanged}
+use Rattle.work.proofs.Theorems.{answer_is, answer_fits, refusal_is, sides_exchanged}
 use Rattle.cache.specs.Cache.{Emptied, kept_of, merges_counted}
 use Rattle.store.specs.Admit.{Admits, cleared, known_goes, unknown}
 use Rattle.store.specs.declared.inner.admit.Admitted.{Admitted}

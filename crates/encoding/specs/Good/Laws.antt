@@ -2,9 +2,9 @@
 use Rattle.std.specs.Prelude.{◌≡◌, refl, [], ◌∷◌, length}
 use Rattle.std.proofs.Common.{arith}
 use Rattle.arena.specs.Store.{Node, dollar, Store, nowhere, find}
-use Rattle.arena.specs.Soundness.{Rise, Full}
+use Rattle.arena.proofs.Soundness.{Rise, Full}
 use Rattle.arena.specs.Room.{room, pool}
-use Rattle.arena.specs.Below.{NodeBelow}
+use Rattle.arena.proofs.Below.{NodeBelow}
 use Rattle.layout.specs.Layout.{stop}
 use Rattle.layout.specs.Encode.{written, words_of}
 use Rattle.layout.specs.Ceilings.{Fits}

@@ -13,7 +13,7 @@ use Rattle.sets.specs.Listed.{at_any, none_any}
 use Rattle.sets.specs.Chains.{last, last_none, Chained, linked, linked_length, linked_other, chain_empty, chain_add}
 use Rattle.setcheck.specs.Keys.{key_heads, key_links}
 use Rattle.groups.specs.Groups.{firsts}
-use Rattle.groups.specs.Last.{firsts_new, firsts_old}
+use Rattle.groups.proofs.Last.{firsts_new, firsts_old}
 use Rattle.grouping.specs.Alike.{alike_of, alike_at, alike_kind}
 use Rattle.grouping.specs.Leads.{Kin, FirstAlike, Next, lead_new, next_new, before, alike, lead_old, next_last, next_other, next_own}
 use Rattle.grouping.specs.Led.{leaders_at, members_at, Lent, bucket_at, Led}

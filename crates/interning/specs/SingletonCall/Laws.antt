@@ -15,7 +15,7 @@ use Rattle.arena.specs.Place.{place}
 use Rattle.layout.specs.Layout.{store_words, scratch_words, stop}
 use Rattle.layout.specs.Decode.{store_of}
 use Rattle.encoding.specs.Decide.{sound, fits}
-use Rattle.encoding.specs.Decide.Laws.{sound_true, true_fits}
+use Rattle.encoding.proofs.DecideLaws.{sound_true, true_fits}
 use Rattle.encoding.specs.Decoded.{decoded}
 use Rattle.store.specs.Checks.{given, unless}
 use Rattle.store.specs.Checks.Laws.{unless_first, unless_next}

@@ -3,7 +3,7 @@ use Rattle.std.specs.Prelude.{◌≡◌, refl, List, ℕ, zero, suc, ◌<◌, le
 use Rattle.std.proofs.Common.{sym, ap, ◌∙◌, arith}
 use Rattle.cases.specs.Numbers.{two}
 use Rattle.arena.specs.Store.{end, dollar, push, node_at}
-use Rattle.arena.specs.Trees.{node_new, node_old}
+use Rattle.arena.proofs.Trees.{node_new, node_old}
 use Rattle.layout.specs.Layout.{kind, first, second, parent, state}
 use Rattle.layout.specs.Listing.{listing}
 use Rattle.layout.specs.Decode.{node_from, node_in, store_in}

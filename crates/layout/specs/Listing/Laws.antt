@@ -3,9 +3,9 @@ use Rattle.std.specs.Prelude.{◌≡◌, refl, ℕ, zero, suc, ◌<◌, ◌≤�
 use Rattle.std.proofs.Common.{sym, ap, ◌∙◌, arith, eq-eqb, ne_eqb}
 use Rattle.cases.specs.Numbers.{two}
 use Rattle.arena.specs.Store.{Node, dollar, push}
-use Rattle.arena.specs.Soundness.{Rise, Full}
+use Rattle.arena.proofs.Soundness.{Rise, Full}
 use Rattle.arena.specs.Kinds.{size}
-use Rattle.arena.specs.Below.{NodeBelow}
+use Rattle.arena.proofs.Below.{NodeBelow}
 use Rattle.layout.specs.Layout.{stop}
 use Rattle.layout.specs.Listing.{listing}
 

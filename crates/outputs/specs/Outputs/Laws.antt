@@ -8,7 +8,7 @@ use Rattle.sets.specs.Config.{Config}
 use Rattle.sets.specs.Layout.{most_configs}
 use Rattle.groups.specs.Groups.{Group, groups}
 use Rattle.groups.specs.Answers.{conflicting_alts}
-use Rattle.groups.specs.Room.{total, groups_fit, conflicting_most}
+use Rattle.groups.proofs.Room.{total, groups_fit, conflicting_most}
 use Rattle.outputs.specs.Outputs.{subsets_length, alts_length, padded, group_words, subsets_words, alts_words}
 
 pub padded_length : (n : ℕ) (xs : List ℕ) → length xs ≤ n → length (padded n xs) ≡ n

@@ -9,7 +9,7 @@ use Rattle.words.specs.Provenance.{id_of}
 use Rattle.words.specs.Provenance.Laws.{id_of_merged}
 use Rattle.arena.specs.Store.{at, nowhere}
 use Rattle.encoding.specs.Decide.{same_words}
-use Rattle.encoding.specs.Decide.Laws.{same_words_lem, words_same}
+use Rattle.encoding.proofs.DecideLaws.{same_words_lem, words_same}
 use Rattle.sets.specs.Config.{Config}
 use Rattle.sets.specs.Lists.{any}
 use Rattle.cases.specs.Bools.{bool?, bool_iff, neither_left, neither_right}

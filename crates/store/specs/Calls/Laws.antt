@@ -10,9 +10,9 @@ use Rattle.layout.specs.Layout.{store_words, scratch_words, count as contexts}
 use Rattle.layout.specs.Encode.{words_of}
 use Rattle.layout.specs.Ceilings.{Fits}
 use Rattle.encoding.specs.Decide.{sound, fits}
-use Rattle.encoding.specs.Decide.Laws.{fits_true}
+use Rattle.encoding.proofs.DecideLaws.{fits_true}
 use Rattle.work.specs.Counted.{Outcome, refused as over}
-use Rattle.work.specs.Counted.Laws.{is_too_much}
+use Rattle.work.proofs.CountedLaws.{is_too_much}
 use Rattle.store.specs.Checks.{Check, unless, due}
 use Rattle.store.specs.Checks.Laws.{Clear, absent, unless_first, unless_next, due_leaves, refused_due, clear_of, by_unless}
 use Rattle.store.specs.Calls.{refused, context, Left, zeros, refusal, wrong_length, unsound_store, unknown_context, no_room, too_much_work, gives_after, Accepts}

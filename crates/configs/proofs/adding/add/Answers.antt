@@ -4,7 +4,7 @@ use native.Mathlib.Omega.{arith}
 use mathlib.Core.Path.{◌≡◌, sym, ◌∙◌}
 use Rattle.store.specs.declared.inner.admit.Admitted.TheVariants.{Ready as ready, Refused}
 use Rattle.setcheck.specs.Configs.{config_of}
-use Rattle.configs.specs.Adds.{add_refused, add_closed, add_unknown, add_addable, add_done}
+use Rattle.configs.proofs.Adds.{add_refused, add_closed, add_unknown, add_addable, add_done}
 use Rattle.configs.proofs.adding.add.Goals as goal
 
 pub returns-in-Refused : goal.returns-in-Refused

@@ -3,7 +3,7 @@ use borrow.Author.Rules.{rules}
 use mathlib.Core.Path.{◌≡◌, sym, ap, ◌∙◌}
 use Rattle.setcheck.specs.Keys.{place_of}
 use Rattle.setcheck.specs.declared.inner.keys.KeyPlace.TheVariants.{At}
-use Rattle.configs.specs.Adds.{add_sought, add_holds, add_joinable, add_at, add_last}
+use Rattle.configs.proofs.Adds.{add_sought, add_holds, add_joinable, add_at, add_last}
 use Rattle.configs.proofs.adding.add_known.Goals as goal
 
 pub insert-requires : goal.insert-requires

@@ -3,7 +3,7 @@ use borrow.Author.Rules.{rules}
 use native.Mathlib.Omega.{arith}
 use lib.ListN.{length-set}
 use Rattle.setcheck.specs.Configs.{config_of}
-use Rattle.configs.specs.Inserts.{insert_full, insert_done}
+use Rattle.configs.proofs.Inserts.{insert_full, insert_done}
 use Rattle.configs.proofs.adding.insert.Goals as goal
 
 pub returns-then-count-ge-MOST_CONFIGS : goal.returns-then-count-ge-MOST_CONFIGS

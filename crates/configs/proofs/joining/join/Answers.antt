@@ -12,7 +12,7 @@ use Rattle.sets.specs.Layout.{config_at, flag}
 use Rattle.sets.specs.Sets.{joined}
 use Rattle.setcheck.specs.Configs.{config_of}
 use Rattle.contexts.specs.MergeCall.Laws.{merged_known}
-use Rattle.configs.specs.Joins.{join_live, join_known, join_place, join_refused, join_done}
+use Rattle.configs.proofs.Joins.{join_live, join_known, join_place, join_refused, join_done}
 use Rattle.configs.proofs.joining.join.Goals as goal
 
 pub merge_known-merged-requires : goal.merge_known-merged-requires

@@ -5,7 +5,7 @@ use mathlib.Core.Path.{◌∙◌}
 use Rattle.store.specs.Admit.{cleared}
 use Rattle.interning.specs.Live.{live_count}
 use Rattle.interning.specs.SingletonCall.Laws.{placed_single}
-use Rattle.interning.specs.Outcomes.{single_pushed, single_place, interned_left, interned_length}
+use Rattle.interning.proofs.Outcomes.{single_pushed, single_place, interned_left, interned_length}
 use Rattle.interning.proofs.single.place_single.Goals as goal
 
 pub intern_entries-interned-requires : goal.intern_entries-interned-requires

@@ -5,7 +5,7 @@ use mathlib.Core.Path.{◌≡◌, sym, ◌∙◌}
 use Rattle.words.specs.declared.names.Compacted.TheVariants.{State}
 use Rattle.store.specs.declared.inner.admit.Admitted.TheVariants.{Refused}
 use Rattle.interning.specs.SingletonCall.Laws.{placed_single}
-use Rattle.interning.specs.Outcomes.{placed, singleton_refused, singleton_ready, singleton_mark, singleton_out, singleton_placed}
+use Rattle.interning.proofs.Outcomes.{placed, singleton_refused, singleton_ready, singleton_mark, singleton_out, singleton_placed}
 use Rattle.interning.proofs.single.singleton.Goals as goal
 
 pub returns-in-Refused : goal.returns-in-Refused

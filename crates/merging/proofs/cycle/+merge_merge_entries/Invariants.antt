@@ -4,7 +4,7 @@ use Rattle.arena.specs.Store.{node_at}
 use Rattle.arena.specs.Kinds.{size}
 use Rattle.layout.specs.Decode.{store_of}
 use Rattle.interning.specs.Interned.{More}
-use Rattle.merging.specs.Turns.{Go}
+use Rattle.merging.proofs.Turns.{Go}
 use Rattle.merging.proofs.cycle.+merge_merge_entries.Given as goal
 
 abbrev pub decreases-merge : goal.decreases-merge

@@ -2,7 +2,7 @@
 use borrow.Author.Rules.{rules}
 use native.Mathlib.Omega.{arith}
 use mathlib.Core.Path.{sym}
-use Rattle.queries.specs.EntryWords.{few, bounds_read, parent_read, parent_many_past}
+use Rattle.queries.proofs.EntryWords.{few, bounds_read, parent_read, parent_many_past}
 use Rattle.queries.proofs.parents.array_parent.Goals as goal
 
 pub pool_parent-requires : goal.pool_parent-requires

@@ -1,7 +1,7 @@
 -- By kind and index: context 0, an array, a singleton's parent, past the end.
 use mathlib.Core.Path.{sym, ap, ◌∙◌}
 use Rattle.store.specs.Calls.{context}
-use Rattle.queries.specs.EntryWords.{few, parent_zero, parent_one, parent_other_past}
+use Rattle.queries.proofs.EntryWords.{few, parent_zero, parent_one, parent_other_past}
 use Rattle.queries.proofs.parents.parent_at.Goals as goal
 
 pub returns-then-index-eq0 : goal.returns-then-index-eq0

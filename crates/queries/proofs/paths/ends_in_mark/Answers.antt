@@ -1,7 +1,7 @@
 -- By kind: an array's last entry, and else whether the record is that of context 0.
 use borrow.Author.Rules.{rules}
 use mathlib.Core.Path.{sym, ◌∙◌}
-use Rattle.queries.specs.EntryWords.{few, bounds_read, last_read, path_other}
+use Rattle.queries.proofs.EntryWords.{few, bounds_read, last_read, path_other}
 use native.Mathlib.Omega.{arith}
 use Rattle.queries.proofs.paths.ends_in_mark.Goals as goal
 

@@ -1,6 +1,6 @@
 -- By kind: an array's length is its size, and any other record has one entry.
 use mathlib.Core.Path.{sym, ◌∙◌}
-use Rattle.queries.specs.EntryWords.{few, size_many, size_other}
+use Rattle.queries.proofs.EntryWords.{few, size_many, size_other}
 use Rattle.queries.proofs.sizes.entry_count.Goals as goal
 
 pub returns-then-kind-eq2 : goal.returns-then-kind-eq2

@@ -2,7 +2,7 @@
 use borrow.Author.Rules.{rules}
 use native.Mathlib.Omega.{arith}
 use mathlib.Core.Path.{sym}
-use Rattle.queries.specs.EntryWords.{few, bounds_read, state_read, state_many_past}
+use Rattle.queries.proofs.EntryWords.{few, bounds_read, state_read, state_many_past}
 use Rattle.queries.proofs.states.array_state.Goals as goal
 
 pub pool_state-held-requires : goal.pool_state-held-requires

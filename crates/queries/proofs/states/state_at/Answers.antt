@@ -3,7 +3,7 @@ use borrow.Author.Rules.{rules}
 use mathlib.Core.Path.{sym, ap, ◌∙◌}
 use Rattle.words.specs.Compact.{expanded}
 use Rattle.store.specs.Calls.{state}
-use Rattle.queries.specs.EntryWords.{few, state_other_past, state_one, state_zero}
+use Rattle.queries.proofs.EntryWords.{few, state_other_past, state_one, state_zero}
 use Rattle.queries.proofs.states.state_at.Goals as goal
 
 pub returns-then-index-ne0 : goal.returns-then-index-ne0

@@ -1,0 +1,2 @@
+-- Lemmas and theorems on the definitions of specs/. Nothing here has to be believed.
+pub mod DecideLaws

@@ -1,0 +1,3 @@
+-- Lemmas and theorems on the definitions of specs/. Nothing here has to be believed.
+pub mod FreshWords
+pub mod Told
