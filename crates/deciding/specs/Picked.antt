@@ -1,25 +1,20 @@
 -- What `each_picked` and the counts say of the subsets. Nothing here has to be believed.
 use Rattle.std.specs.Prelude.{◌≡◌, refl, ◌↔◌, Bool, true, false, ◌&&◌, ◌||◌, not, List, [], ◌∷◌, ℕ, ◌≤◌, ◌*◌, eqb, length}
-use Rattle.std.proofs.Common.{sym, ap, ap₂, ◌∙◌, inl, inr, arith, mul-le-mul_right, eqb-true, eq-eqb, ne_eqb}
+use Rattle.std.proofs.Common.{sym, ap, ap₂, ◌∙◌, arith, mul-le-mul_right, eqb-true, eq-eqb, ne_eqb}
 use Rattle.std.proofs.Math.Path.{fun_ext}
 use Rattle.std.proofs.lemmas.List.{length-map}
 use Rattle.std.proofs.lemmas.Bool.{eqb-false, not-true}
-use Rattle.cases.specs.Numbers.{two}
 use Rattle.sets.specs.Config.{Config}
 use Rattle.sets.specs.Lists.{any, all}
-use Rattle.cases.specs.Bools.{bool?, never_both, is_false, bool_iff, both_true, and_left, and_right}
+use Rattle.cases.specs.Bools.{bool?, bool_iff, both_true, and_left, and_right}
 use Rattle.groups.specs.Lists.{Any, All, which}
-use Rattle.groups.specs.Lists.Laws.{some_map, some_in, in_some, every_map, every_in, in_every}
 use Rattle.groups.specs.Lists.Tests.{any_exact, all_exact}
 use Rattle.groups.specs.Groups.{together, firsts, subset, groups}
 use Rattle.groups.specs.Answers.{all_subsets_conflict, all_subsets_equal, just_one}
-use Rattle.groups.specs.Sentences.{AtPlace, JustOne}
-use Rattle.groups.proofs.Firsts.{together_true, true_together}
 use Rattle.groups.proofs.Rules.{Beside}
-use Rattle.groups.proofs.Conflicts.{Rival, conflict_configs}
-use Rattle.groups.proofs.Decided.{just_exact}
-use Rattle.groups.proofs.Counted.{one_alt, one_triple, alt_true, true_alt, triple_true, true_triple, equal_count}
-use Rattle.grouping.specs.Alike.{alike_of, alike_true, true_alike}
+use Rattle.groups.proofs.Conflicts.{conflict_configs}
+use Rattle.groups.proofs.Counted.{equal_count}
+use Rattle.grouping.specs.Alike.{alike_of}
 use Rattle.grouping.specs.Ways.{place_true, true_place, same_places, same_alts, same_triples, same_states}
 use Rattle.grouping.specs.Marks.{picks, each_picked}
 use Rattle.grouping.specs.declared.inner.traits.Alike.{Alike}

@@ -3,7 +3,7 @@ use Rattle.std.specs.Prelude.{◌≡◌, refl, Bool, true, false, List, [], ◌�
 use Rattle.std.proofs.Common.{sym, arith, eq-eqb, ne_eqb}
 use Rattle.sets.specs.Config.{Config}
 use Rattle.sets.specs.Layout.{config_at, config_count}
-use Rattle.sets.specs.Lists.{any, all}
+use Rattle.sets.specs.Lists.{any}
 use Rattle.cases.specs.Bools.{or_right, never_both, is_false}
 use Rattle.sets.specs.Listed.{all_at, at_all}
 use Rattle.groups.specs.Groups.{groups}

@@ -1,19 +1,16 @@
 -- The figures are the four calls' answers, and are refused exactly when the verdict is; any two answers are equal. Nothing here has to be believed.
-use Rattle.std.specs.Prelude.{◌≡◌, refl, ◌↔◌, Bool, true, false, ◌&&◌, ℕ, ◌<◌, eqb, ltb, length}
+use Rattle.std.specs.Prelude.{◌≡◌, refl, ◌↔◌, ℕ, length}
 use Rattle.std.proofs.Math.Path.{sym, ap}
-use Rattle.std.proofs.Common.{◌∙◌, arith, eq-eqb, ltb-true, lt-ltb}
-use mathlib.Core.List.{List, [], ◌∷◌}
+use Rattle.std.proofs.Common.{◌∙◌, arith, eq-eqb}
+use mathlib.Core.List.{List, []}
 use Rattle.std.proofs.Math.ListN.{get_or}
-use Rattle.cases.specs.Bools.{never_both}
 use Rattle.words.specs.Refusals.{number}
-use Rattle.words.specs.declared.refusals.Refusal.{Refusal}
 use Rattle.store.specs.Calls.{zeros, refused as storeRefused}
 use Rattle.store.proofs.Told.{number_tells}
-use Rattle.store.specs.Checks.{Check, given, unless}
 use Rattle.store.specs.Checks.Laws.{Clear, passed_clear, clear_passed}
 use Rattle.sets.specs.Config.{Config}
 use Rattle.sets.specs.Words.{set_of}
-use Rattle.sets.specs.Calls.{lent_lengths, lent_checks}
+use Rattle.sets.specs.Calls.{lent_checks}
 use Rattle.groups.specs.Answers.{unique_alt, single_viable_alt, verdict}
 use Rattle.outputs.specs.Outputs.{subsets_length, padded, subsets_words}
 use Rattle.deciding.specs.OneAlt.Laws.{one_tells}
@@ -22,7 +19,6 @@ use Rattle.verdicts.specs.Calls.{conflicting_alt_subsets_call, unique_alt_call, 
 use Rattle.verdicts.specs.Refused.{refusal_reply, ask_refuses, Refuses, verdict_refuses}
 use Rattle.figures.specs.Calls.{figures_of, figures_call}
 use Rattle.figures.specs.Replies.{summary_of, told}
-use Rattle.figures.specs.declared.answers.Figures.{Figures}
 use Rattle.figures.specs.declared.answers.Told.{Told}
 use Rattle.figures.specs.declared.answers.Told.TheVariants.{All, Refused}
 

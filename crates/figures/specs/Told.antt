@@ -1,6 +1,5 @@
 -- The figures together, from each by itself. Nothing here has to be believed.
 use Rattle.std.specs.Prelude.{◌≡◌, refl, Bool, List, ℕ, length}
-use Rattle.std.proofs.Common.{ap}
 use Rattle.sets.specs.Config.{Config}
 use Rattle.groups.specs.Groups.{groups}
 use Rattle.groups.specs.Answers.{Answer, unique_alt, single_viable_alt, verdict}

@@ -3,7 +3,7 @@ use Rattle.std.specs.Prelude.{◌≡◌, refl, ◌↔◌, Bool, ◌&&◌, not, �
 use Rattle.std.proofs.Common.{sym, ap₂, ◌∙◌, arith, add-one, ne_eqb}
 use Rattle.std.proofs.Math.Path.{ap}
 use Rattle.std.proofs.Math.Bool.{true, false}
-use mathlib.Core.List.{List, [], ◌∷◌, ◌++◌}
+use mathlib.Core.List.{List, [], ◌∷◌}
 use Rattle.std.proofs.Math.ListN.{length}
 use Rattle.std.proofs.lemmas.Bool.{eqb-false, not-true}
 use Rattle.layout.specs.Layout.{scratch_words, blank}
@@ -13,7 +13,7 @@ use Rattle.sets.specs.Lists.{any}
 use Rattle.cases.specs.Bools.{bool?, bool_iff, both_true, and_left, and_right}
 use Rattle.sets.specs.Words.{configs_in}
 use Rattle.sets.specs.Listed.{configs_length}
-use Rattle.groups.specs.Lists.{Any, In, which}
+use Rattle.groups.specs.Lists.{In, which}
 use Rattle.groups.specs.Lists.Tests.{any_exact}
 use Rattle.groups.specs.Groups.{insert, rising, alts_of, subset}
 use Rattle.groups.specs.Answers.{many, conflicting_alts}
@@ -26,7 +26,7 @@ use Rattle.grouping.specs.Alike.{alike_of}
 use Rattle.grouping.specs.Places.{place_some}
 use Rattle.grouping.specs.Ways.{place_true, true_place}
 use Rattle.grouping.specs.Clash.{configs_of, alt_at}
-use Rattle.grouping.specs.Led.{leaders_at, marks_at, Lent, Led}
+use Rattle.grouping.specs.Led.{Led}
 use Rattle.grouping.specs.Marks.{picks, leader_at, mark_at, Markable, Marked}
 use Rattle.grouping.specs.Marks.Laws.{markable, marked_able, mark_tells}
 use Rattle.grouping.specs.declared.inner.traits.Alike.TheVariants.{Place}

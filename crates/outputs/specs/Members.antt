@@ -2,14 +2,14 @@
 use Rattle.std.specs.Prelude.{◌≡◌, refl, Bool, true, false, get_or, take}
 use Rattle.std.proofs.Common.{sym, ◌∙◌}
 use Rattle.std.proofs.Math.Path.{ap}
-use mathlib.Core.List.{List, [], ◌∷◌, ◌++◌}
+use mathlib.Core.List.{List, [], ◌++◌}
 use Prim.Native.Nat.{ℕ, zero, suc, ◌<◌, ◌≤◌, ◌+◌, ◌-◌}
 use native.Mathlib.Omega.{arith}
 use Rattle.std.proofs.Math.ListN.{length, length-append}
 use Rattle.std.proofs.Math.Seq.{length-take-le}
 use Rattle.cases.specs.Numbers.{two}
 use Rattle.sets.specs.Config.{Config}
-use Rattle.sets.specs.Layout.{most_configs, config_at, config_count}
+use Rattle.sets.specs.Layout.{config_at, config_count}
 use Rattle.cases.specs.Bools.{bool?, is_false, never_both}
 use Rattle.sets.specs.Words.{configs_in}
 use Rattle.groups.specs.Lists.{which}

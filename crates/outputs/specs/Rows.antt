@@ -1,10 +1,10 @@
 -- Words that are written up to a place, and zeros after it. Nothing here has to be believed.
-use Rattle.std.specs.Prelude.{◌≡◌, refl, ℕ, zero, suc, ◌<◌, ◌≤◌, ◌+◌, ◌-◌, drop, set, replicate}
-use Rattle.std.proofs.Common.{sym, ◌∙◌, arith, length-append, drop_at, take_all}
+use Rattle.std.specs.Prelude.{◌≡◌, ℕ, suc, ◌<◌, ◌≤◌, ◌+◌, ◌-◌, drop, set, replicate}
+use Rattle.std.proofs.Common.{sym, ◌∙◌, arith, length-append, drop_at}
 use Rattle.std.proofs.Math.Path.{ap, ap₂}
-use mathlib.Core.List.{List, [], ◌∷◌, ◌++◌, append_assoc, append-nil}
+use mathlib.Core.List.{List, [], ◌∷◌, ◌++◌, append_assoc}
 use Rattle.std.proofs.Math.ListN.{length, take}
-use Rattle.std.proofs.lemmas.List.{length-replicate, set_at}
+use Rattle.std.proofs.lemmas.List.{set_at}
 use Rattle.std.proofs.Math.Seq.{take-append-le, take_at}
 use Rattle.layout.specs.Layout.{blank}
 use Rattle.groups.specs.Lists.{Rising}

@@ -1,10 +1,9 @@
 -- The subsets, written config by config. Nothing here has to be believed.
-use Rattle.std.specs.Prelude.{◌≡◌, refl, Bool, true, false, ℕ, zero, suc, ◌<◌, ◌≤◌, ◌+◌, ◌*◌, ◌-◌, get_or, replicate}
+use Rattle.std.specs.Prelude.{◌≡◌, refl, true, false, ℕ, zero, suc, ◌<◌, ◌≤◌, ◌+◌, get_or, replicate}
 use Rattle.std.proofs.Math.Path.{sym, ap, ap₂}
 use Rattle.std.proofs.Common.{◌∙◌, arith, add-one}
 use mathlib.Core.List.{List, [], ◌∷◌, ◌++◌, map, flat_map, append_assoc, append-nil, map-append}
 use Rattle.std.proofs.Math.ListN.{length, set, length-append}
-use Rattle.std.proofs.lemmas.List.{length-map}
 use Rattle.cases.specs.Numbers.{two}
 use Rattle.layout.specs.Layout.{blank}
 use Rattle.sets.specs.Config.{Config}
@@ -25,7 +24,7 @@ use Rattle.outputs.specs.Outputs.{subsets_length, padded, group_words, subsets_w
 use Rattle.outputs.specs.Outputs.Laws.{padded_length, all_words}
 use Rattle.outputs.specs.Insert.{row_with}
 use Rattle.outputs.specs.Rows.{padded_set, padded_over, padded_zero, row_with_lem}
-use Rattle.outputs.specs.Members.{joins, joins_alike, alts_at, Roomy}
+use Rattle.outputs.specs.Members.{joins_alike, alts_at, Roomy}
 
 -- the words that the first m configs give
 abbrev pub groups_to : List ℕ → ℕ → List Group

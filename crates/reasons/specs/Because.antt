@@ -1,16 +1,14 @@
 -- From what the walks find to the reason. Nothing here has to be believed.
-use Rattle.std.specs.Prelude.{◌≡◌, refl, ◌⊎◌, ◌↔◌, Bool, true, false, ◌&&◌, not, List, ℕ, ◌<◌, ◌≤◌, eqb}
-use Rattle.std.proofs.Common.{sym, ap, ◌∙◌, subst, inl, inr, arith}
+use Rattle.std.specs.Prelude.{◌≡◌, refl, Bool, true, false, ◌&&◌, not, List, ℕ, ◌<◌, eqb}
+use Rattle.std.proofs.Common.{sym, ap, ◌∙◌, arith}
 use Rattle.std.proofs.Math.Path.{fun_ext}
-use Rattle.std.proofs.lemmas.Bool.{false≢true}
 use Rattle.cases.specs.Bools.{bool_iff, never_both, is_false}
-use Rattle.cases.specs.Numbers.{two}
 use Rattle.sets.specs.Config.{Config}
 use Rattle.sets.specs.Layout.{config_at, config_count}
 use Rattle.sets.specs.Lists.{any}
 use Rattle.sets.specs.Words.{configs_in}
-use Rattle.groups.specs.Lists.{Any, All, In}
-use Rattle.groups.specs.Lists.Laws.{some_in, in_some, every_in}
+use Rattle.groups.specs.Lists.{In}
+use Rattle.groups.specs.Lists.Laws.{in_some}
 use Rattle.groups.specs.Lists.Tests.{any_exact}
 use Rattle.groups.specs.Groups.{together, subset, groups}
 use Rattle.groups.specs.Answers.{many, stopped, just_one}
@@ -18,8 +16,8 @@ use Rattle.groups.specs.Sentences.{Many, Conflict, JustOne}
 use Rattle.groups.proofs.Rules.{Beside, subset_same}
 use Rattle.groups.proofs.Conflicts.{many_exact, Rival, many_rival, rival_many, conflict_groups}
 use Rattle.groups.proofs.Decided.{stopped_exact, just_exact}
-use Rattle.groups.specs.Reason.{Reason, stop, none, one, clash, reason, FirstOf, Holds, NoEarlier}
-use Rattle.groups.proofs.ReasonLaws.{first_some, reason_stop, reason_is}
+use Rattle.groups.specs.Reason.{stop, none, one, clash, reason, FirstOf, Holds}
+use Rattle.groups.proofs.ReasonLaws.{first_some, reason_is}
 use Rattle.grouping.specs.Alike.{alike_of, alike_at}
 use Rattle.grouping.specs.Ways.{same_places, same_states}
 use Rattle.grouping.specs.Places.{place_some, some_place}
@@ -30,7 +28,6 @@ use Rattle.grouping.specs.Marks.{picks}
 use Rattle.grouping.specs.FirstMarked.{served, FirstPicked}
 use Rattle.grouping.specs.declared.inner.traits.Alike.TheVariants.{State, Place}
 use Rattle.grouping.specs.declared.inner.marks.Picks.TheVariants.{Rivals}
-use Rattle.setcheck.specs.declared.inner.keys.KeyPlace.{KeyPlace}
 use Rattle.setcheck.specs.declared.inner.keys.KeyPlace.TheVariants.{At, New}
 use Rattle.deciding.specs.Picked.{both_exact, place_exact, rival_exact, any_fails}
 use Rattle.reasons.specs.First.{place_first, first_subset}

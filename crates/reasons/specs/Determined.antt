@@ -5,7 +5,7 @@ use Rattle.std.proofs.Common.{sym, ap, ap₂, ◌∙◌}
 use Rattle.words.specs.Refusals.{number}
 use Rattle.store.specs.Calls.{refused as storeRefused}
 use Rattle.store.proofs.Told.{number_tells}
-use Rattle.verdicts.specs.Calls.{VerdictReply, VerdictLeft, verdict_left}
+use Rattle.verdicts.specs.Calls.{VerdictLeft, verdict_left}
 use Rattle.reasons.specs.Replies.{told}
 use Rattle.reasons.specs.declared.answers.Reason.{Reason}
 use Rattle.reasons.specs.declared.answers.Reason.TheVariants.{Stop, NoClash, One, Clash, Refused}

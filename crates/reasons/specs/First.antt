@@ -1,20 +1,19 @@
 -- The first config in set order that is a P, by its place; and the first subset with two or more alternatives by its first config.
 -- Nothing here has to be believed.
-use Rattle.std.specs.Prelude.{◌≡◌, refl, ◌⊎◌, ◌↔◌, Bool, true, false, ◌&&◌, not, List, [], ◌∷◌, ◌++◌, map, ℕ, zero, suc, ◌<◌}
-use Rattle.std.proofs.Common.{sym, ap, ◌∙◌, inl, inr, ⊎_elim, arith}
+use Rattle.std.specs.Prelude.{◌≡◌, refl, Bool, true, false, not, List, [], ◌∷◌, ◌++◌, map, ℕ, zero, suc, ◌<◌}
+use Rattle.std.proofs.Common.{sym, ap, inl, inr, arith}
 use Rattle.std.proofs.Math.Path.{subst}
-use Rattle.cases.specs.Bools.{bool?, never_both}
+use Rattle.cases.specs.Bools.{bool?}
 use Rattle.cases.specs.Numbers.{two}
 use Rattle.sets.specs.Config.{Config}
 use Rattle.sets.specs.Layout.{config_at}
 use Rattle.sets.specs.Words.{configs_in}
 use Rattle.groups.specs.Lists.{All, which}
 use Rattle.groups.specs.Lists.Tests.{which_yes, which_no}
-use Rattle.groups.specs.Groups.{Group, together, firsts, subset, groups}
+use Rattle.groups.specs.Groups.{together, firsts, subset, groups}
 use Rattle.groups.proofs.Rules.{subset_same}
 use Rattle.groups.specs.Sentences.{Many}
 use Rattle.groups.specs.Reason.{FirstOf}
-use Rattle.groups.proofs.ReasonLaws.{first_some}
 use Rattle.grouping.specs.Places.{place_every}
 
 -- ---- by place
@@ -29,6 +28,7 @@ module _ {A : Type 0} (P : A → Type 0) where
   first_more : (xs ys : List A) (a : A) → FirstOf P a xs → FirstOf P a (xs ++ ys)
   first_more (x ∷ xs) ys a (inl h) = inl h
   first_more (x ∷ xs) ys a (inr h) = inr (h.0, first_more xs ys a h.1)
+  first_more [] ys a x' = elim x' [ ]
 
   -- those that fail a test, which no P fails, left out
   first_which : (t : A → Bool) → ((x : A) → t x ≡ false → P x → ⊥) → (xs : List A) (a : A) → FirstOf P a xs → FirstOf P a (which t xs)
@@ -40,6 +40,7 @@ module _ {A : Type 0} (P : A → Type 0) where
       bool? (t x)
       (λ e. subst (FirstOf P a) (sym (which_yes t x xs e)) (inr (h.0, rest)))
       (λ e. subst (FirstOf P a) (sym (which_no t x xs e)) rest)
+  first_which t f [] a x' = elim x' [ ]
 
 pub place_first : (P : Config → Type 0) (v : List ℕ) (n i : ℕ) → i < n → ((j : ℕ) → j < i → P (config_at v j) → ⊥) → P (config_at v i)
     → FirstOf P (config_at v i) (configs_in v n)
@@ -64,10 +65,12 @@ unfolding firsts
 first_firsts P alike f (c ∷ cs) a (inl h) = inl h
 first_firsts P alike f (c ∷ cs) a (inr h) =
     inr (h.0, first_which P (λ d. not (alike c d)) (λ x e p. h.0 (f c x (not_false (alike c x) e) p)) (firsts alike cs) a (first_firsts P alike f cs a h.1))
+first_firsts P alike f [] a x' = elim x' [ ]
 
 first_map : {A B : Type 0} (g : A → B) (P : B → Type 0) (xs : List A) (a : A) → FirstOf (λ x. P (g x)) a xs → FirstOf P (g a) (map g xs)
 first_map g P (x ∷ xs) a (inl h) = inl (h.0, ap g h.1)
 first_map g P (x ∷ xs) a (inr h) = inr (h.0, first_map g P xs a h.1)
+first_map {A = A} {B = B} g P [] a x' = elim x' [ ]
 
 -- The first config whose subset has two or more alternatives has the first such subset.
 pub first_subset : (cs : List Config) (c : Config) → FirstOf (λ d. Many (subset cs d)) c cs → FirstOf Many (subset cs c) (groups cs)

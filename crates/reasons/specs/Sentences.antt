@@ -1,11 +1,9 @@
 -- Request A6's sentences, of the call: the reason given is true of the set, no earlier reason held, and the two together force the verdict.
 -- Refused exactly when that is due, and leaving all as it was. Nothing here has to be believed.
-use Rattle.std.specs.Prelude.{◌≡◌, refl, Bool, true, false, not, ◌&&◌, List, [], ◌∷◌, ℕ, ◌<◌, eqb, ltb, length}
-use Rattle.std.proofs.Common.{sym, ◌∙◌, arith, ltb-true, lt-ltb}
+use Rattle.std.specs.Prelude.{◌≡◌, refl, Bool, true, false, not, ◌&&◌, List, [], ℕ, eqb, length}
+use Rattle.std.proofs.Common.{sym, ◌∙◌, arith}
 use Rattle.std.proofs.Math.Path.{ap}
-use Rattle.cases.specs.Bools.{never_both}
 use Rattle.store.specs.Calls.{zeros}
-use Rattle.store.specs.Checks.{Check, given, unless}
 use Rattle.store.specs.Checks.Laws.{Clear, passed_clear, clear_passed}
 use Rattle.sets.specs.Config.{Config}
 use Rattle.sets.specs.Words.{set_of}

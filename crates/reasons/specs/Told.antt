@@ -1,5 +1,5 @@
 -- What each outcome of the walk comes to: the reason, and the words of its alternatives. Nothing here has to be believed.
-use Rattle.std.specs.Prelude.{◌≡◌, refl, true, false, List, [], ◌∷◌, ℕ, ◌<◌, ◌≤◌, length, get_or, take, drop, replicate}
+use Rattle.std.specs.Prelude.{◌≡◌, refl, true, false, List, [], ◌∷◌, ℕ, ◌<◌, length, get_or, take, drop, replicate}
 use Rattle.std.proofs.Common.{sym, ap, ap₂, ◌∙◌, arith, take_at}
 use Rattle.layout.specs.Layout.{blank}
 use Rattle.sets.specs.Config.{Config}

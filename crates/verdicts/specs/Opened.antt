@@ -1,9 +1,9 @@
 -- What a call leaves once `open_set` has answered. Nothing here has to be believed.
-use Rattle.std.specs.Prelude.{◌≡◌, refl, Bool, true, false, ◌&&◌, not, ℕ, ◌≤◌, eqb, ltb, length, replicate}
+use Rattle.std.specs.Prelude.{◌≡◌, Bool, true, false, ◌&&◌, ℕ, eqb, length, replicate}
 use Rattle.std.proofs.Math.Path.{sym, ap}
-use Rattle.std.proofs.Common.{◌∙◌, arith, eq-eqb, ne_eqb}
+use Rattle.std.proofs.Common.{◌∙◌, eq-eqb, ne_eqb}
 use Rattle.std.proofs.Math.Bool.{and-true, and-false}
-use mathlib.Core.List.{List, [], ◌∷◌, ◌++◌}
+use mathlib.Core.List.{List, [], ◌∷◌}
 use Rattle.cases.specs.Numbers.{two}
 use Rattle.words.specs.Refusals.{number}
 use Rattle.words.specs.declared.refusals.Refusal.{Refusal}
@@ -17,7 +17,7 @@ use Rattle.sets.specs.Calls.{SetLeft, set_left, lent_lengths, lent_checks, refus
 use Rattle.setcheck.specs.Opened.{ReadySet, OpenedSet}
 use Rattle.grouping.specs.Led.{Lent}
 use Rattle.deciding.specs.Alone.{Counted}
-use Rattle.verdicts.specs.Calls.{VerdictReply, refused, VerdictLeft, verdict_left, read_refusal, read_call}
+use Rattle.verdicts.specs.Calls.{VerdictReply, refused, verdict_left, read_refusal, read_call}
 
 -- the set's words, and the scratch
 pub ready_lent : {w v u : List ℕ} → ReadySet w v u → Lent v u

@@ -1,7 +1,7 @@
 -- Document 01's sentences on subsets, alternatives and the verdict, of calls that are not refused. Nothing here has to be believed.
-use Rattle.std.specs.Prelude.{◌≡◌, ◌↔◌, Bool, true, false, ◌&&◌, ℕ, ◌≤◌, ltb, length}
+use Rattle.std.specs.Prelude.{◌≡◌, ◌↔◌, Bool, true, ◌&&◌, ℕ, ◌≤◌, ltb, length}
 use Rattle.std.proofs.Math.Path.{refl, ap}
-use Rattle.std.proofs.Common.{sym, ◌∙◌, arith, eq-eqb, le-ltb}
+use Rattle.std.proofs.Common.{sym, ◌∙◌, eq-eqb, le-ltb}
 use Rattle.std.proofs.Math.Bool.{and-true}
 use mathlib.Core.List.{List, [], ◌∷◌, flat_map}
 use Rattle.std.proofs.Math.Dec.{eqb}
@@ -14,7 +14,7 @@ use Rattle.sets.specs.Calls.{lent_lengths, lent_checks}
 use Rattle.sets.proofs.Refusals.{SoundLent, lent_clear}
 use Rattle.groups.specs.Lists.{All}
 use Rattle.groups.specs.Groups.{groups}
-use Rattle.groups.specs.Answers.{Answer, none, only, conflicting_alts, all_subsets_conflict, all_subsets_equal, single_viable_alt, unique_alt, verdict}
+use Rattle.groups.specs.Answers.{Answer, only, conflicting_alts, all_subsets_conflict, all_subsets_equal, single_viable_alt, unique_alt, verdict}
 use Rattle.groups.specs.Sentences.{Subsets, Many, ConflictUnion, AllEqual, Viable, Unique, VerdictYes}
 use Rattle.groups.proofs.Rules.{subsets}
 use Rattle.groups.proofs.Conflicts.{conflict_exact, conflicting_union}
@@ -22,7 +22,7 @@ use Rattle.groups.proofs.Equal.{equal_exact}
 use Rattle.groups.proofs.Single.{unique_says, viable_says}
 use Rattle.groups.proofs.Decided.{verdict_exact}
 use Rattle.outputs.specs.Outputs.{subsets_length, alts_length, padded, group_words, subsets_words, alts_words}
-use Rattle.verdicts.specs.Calls.{VerdictReply, says, alternative, written, VerdictLeft, verdict_left, read_refusal, read_call, most_stops}
+use Rattle.verdicts.specs.Calls.{VerdictReply, says, alternative, VerdictLeft, verdict_left, read_refusal, read_call, most_stops}
 use Rattle.verdicts.specs.Calls.{conflicting_alt_subsets_call, conflicting_alts_call, unique_alt_call, single_viable_alt_call, all_subsets_conflict_call, all_subsets_equal_call, verdict_call}
 
 module _ (w v z : List ℕ) (s : SoundLent w v z) where
