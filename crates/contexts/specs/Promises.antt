@@ -11,7 +11,8 @@ use Rattle.stacks.specs.Forest.{Forest, mem}
 use Rattle.stacks.specs.Canon.{Canon}
 use Rattle.stacks.specs.Merge.{merge_t}
 use Rattle.stacks.specs.Rules.{WildcardMerge}
-use Rattle.stacks.proofs.RulesLaws.{MergeRule, merge_rule}
+use Rattle.stacks.proofs.RulesLaws.{MergeRule}
+use Rattle.stacks.proofs.RulesTheorems.{merge_rule}
 use Rattle.arena.specs.Store.{Store, tree, at}
 use Rattle.arena.proofs.Trees.{tree_canon}
 use Rattle.arena.specs.Stands.{stands}

@@ -11,7 +11,7 @@ use Rattle.stacks.specs.Forest.{Forest, over, mem}
 use Rattle.stacks.specs.Forest as Forests
 use Rattle.stacks.specs.Merge.{merge_t}
 use Rattle.stacks.specs.Rules.{Stacks, WildcardMerge}
-use Rattle.stacks.proofs.RulesLaws.{wildcard_determined}
+use Rattle.stacks.proofs.RulesTheorems.{wildcard_determined}
 use Rattle.arena.specs.Store.{end, dollar, Store, tree_of, tree, node_at}
 use Rattle.arena.proofs.Trees.{tree_node}
 use Rattle.arena.specs.Place.{intern}

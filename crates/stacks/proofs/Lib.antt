@@ -4,3 +4,4 @@ pub mod LossesExamples
 pub mod LossesLaws
 pub mod MergeLaws
 pub mod RulesLaws
+pub mod RulesTheorems

@@ -8,7 +8,8 @@ use Rattle.stacks.specs.Forest.{Forest, none, mark, over, mem}
 use Rattle.stacks.specs.Canon.{Some, Canon}
 use Rattle.stacks.specs.Beneath.{under, under_canon, mem_under, first, mem_first}
 use Rattle.stacks.specs.Rules.{Stacks, OnlyEmpty, beneath, Top, WildcardMerge, swallowed, merged}
-use Rattle.stacks.proofs.RulesLaws.{NoTop, by_tops, beneath_under}
+use Rattle.stacks.proofs.RulesLaws.{NoTop}
+use Rattle.stacks.proofs.RulesTheorems.{by_tops, beneath_under}
 use Rattle.stacks.specs.Losses.{BeginsWith, anything, below, going_on, EndsAt}
 
 -- ---- the sides of the sentences can be exchanged

@@ -17,7 +17,6 @@ check_new-requires c =
     many_fresh pre.0 pre.1 pre.2 first_of.ensures second-of.ensures if1.false (omega arith) (omega (arith, if1.false, pre.0.within))
     (rw (if4.false) at entries-sound.ensures) load-entries.new.scratch load-entries.ensures
 
-
 pub returns-then-check_new : goal.returns-then-check_new
 returns-then-check_new c =
     let pre = c.requires in
@@ -32,7 +31,6 @@ returns-then-check_new c =
     (rw (if4.false) at entries-sound.ensures) load-entries.new.scratch load-entries.ensures
     check-new.new.scratch (rw c.if-check_new.true at check-new.ensures)
 
-
 pub returns : goal.returns
 returns c =
     let pre = c.requires in
@@ -46,4 +44,3 @@ returns c =
     many_bad pre.0 pre.1 pre.2 first_of.ensures second-of.ensures if1.false (omega arith) (omega (arith, if1.false, pre.0.within))
     (rw (if4.false) at entries-sound.ensures) load-entries.new.scratch load-entries.ensures
     check-new.new.scratch (rw c.if-check_new.false at check-new.ensures)
-

@@ -13,16 +13,13 @@ find_interned-found-requires c =
     fresh_sought args.store.now args.scratch.now args.context args.n pre c.entries_hash-hash.result
     c.entries_hash-hash.ensures
 
-
 pub returns-in_default : goal.returns-in_default
 returns-in_default c =
     let args = c.args in
     let pre = c.requires in
     let entries-hash = c.entries_hash-hash in
-    let find-interned = c.find_interned-found in
-     (
+    let find-interned = c.find_interned-found in (
       sym find-interned.ensures ∙ ap found_of c.in_default.is,
       rw c.add_to_index.ensures
           (fresh_indexed args.store.now args.scratch.now args.context args.n pre entries-hash.result entries-hash.ensures),
     )
-

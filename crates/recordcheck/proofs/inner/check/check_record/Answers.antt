@@ -9,26 +9,21 @@ kind_of-kind-requires c =
     let pre = c.requires in
     (pre.0.records.sized, pre.1)
 
-
 pub check_single-requires : goal.check_single-requires
 check_single-requires c =
     let pre = c.requires in
     (pre.0, pre.1, sym c.kind_of-kind.ensures ∙ c.if-kind-eq1.true)
 
-
 pub returns-then-kind-eq1 : goal.returns-then-kind-eq1
 returns-then-kind-eq1 c = c.check_single.ensures
-
 
 pub check_array-requires : goal.check_array-requires
 check_array-requires c =
     let pre = c.requires in
     (pre.0, pre.1, sym c.kind_of-kind.ensures ∙ c.if-kind-eq2.true)
 
-
 pub returns-then-kind-eq2 : goal.returns-then-kind-eq2
 returns-then-kind-eq2 c = c.check_array.ensures
-
 
 pub returns : goal.returns
 returns c =
@@ -39,4 +34,3 @@ returns c =
           (λ e. c.if-kind-eq2.false (kind-of.ensures ∙ e)),
       pre.0.index.sized,
     )
-

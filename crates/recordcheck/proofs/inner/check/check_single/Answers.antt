@@ -12,7 +12,6 @@ check_new-requires c =
     let put-entry = c.put_entry in
     read_fresh pre.0 pre.1 pre.2 first_of.ensures second-of.ensures (omega arith) (omega arith) put-entry.new.scratch put-entry.ensures
 
-
 pub returns-then-check_new : goal.returns-then-check_new
 returns-then-check_new c =
     let pre = c.requires in
@@ -23,7 +22,6 @@ returns-then-check_new c =
     read_good pre.0 pre.1 pre.2 first_of.ensures second-of.ensures (omega arith) (omega arith) put-entry.new.scratch put-entry.ensures
     check-new.new.scratch (rw c.if-check_new.true at check-new.ensures)
 
-
 pub returns : goal.returns
 returns c =
     let pre = c.requires in
@@ -33,4 +31,3 @@ returns c =
     let check-new = c.check_new in
     read_bad pre.0 pre.1 pre.2 first_of.ensures second-of.ensures (omega arith) (omega arith) put-entry.new.scratch put-entry.ensures
     check-new.new.scratch (rw c.if-check_new.false at check-new.ensures)
-

@@ -16,4 +16,3 @@ returns c =
     entries_of (state args.store.now) (parent args.store.now) args.from args.n args.context
     (λ j. omega (arith, c.shared_slice_known-1.given (3586 + j)))
     (λ j h. c.loop-i.invariant.1 j (omega arith))
-

@@ -12,7 +12,5 @@ use Rattle.recordcheck.proofs.inner.check.entries_sound.Given as goal
 abbrev pub invariant-loop-i : goal.invariant-loop-i
 invariant-loop-i l = (l.i ≤ l.n) × ((j : ℕ) → j < l.i → EntryAt (state l.store) (parent l.store) l.from (l.from + j) l.context)
 
-
 abbrev pub decreases-loop-i : goal.decreases-loop-i
 decreases-loop-i l = l.n - l.i
-

@@ -12,7 +12,6 @@ returns-then-context-count_of c =
     admits_known args.store.now args.scratch.now open-store.new.scratch args.context.0 open-store.result
     c.in-Ready.is open-store.ensures (rw c.count_of.ensures at c.if-context-count_of.true)
 
-
 pub returns : goal.returns
 returns c =
     let args = c.args in
@@ -24,4 +23,3 @@ returns c =
     (c.clear.ensures ∙ cleared open-store.new.scratch
     (opened_ready args.store.now args.scratch.now open-store.new.scratch args.context.0 open-store.result
     c.in-Ready.is open-store.ensures).index.sized)
-

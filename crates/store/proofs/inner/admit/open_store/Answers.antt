@@ -11,12 +11,10 @@ returns-then-store-ne-STORE_WORDS c =
     let args = c.args in
     λ go. short_store args.store.now args.scratch.now go c.if-store-ne-STORE_WORDS.true
 
-
 pub returns-then-scratch-ne-SCRATCH_WORDS : goal.returns-then-scratch-ne-SCRATCH_WORDS
 returns-then-scratch-ne-SCRATCH_WORDS c =
     let args = c.args in
     λ go. short_scratch args.store.now args.scratch.now go c.if-scratch-ne-SCRATCH_WORDS.true
-
 
 pub returns-then-check_store : goal.returns-then-check_store
 returns-then-check_store c =
@@ -25,7 +23,6 @@ returns-then-check_store c =
     let if2 = c.if-scratch-ne-SCRATCH_WORDS in
     let v = rw c.if-check_store.true at c.check_store.ensures in
     (v, λ go. sound_goes args.store.now args.scratch.now go if1.false if2.false v.sound)
-
 
 pub returns : goal.returns
 returns c =
@@ -38,4 +35,3 @@ returns c =
     λ go. unsound args.store.now args.scratch.now go if1.false if2.false v.0 ∙ ap
     (λ (x : List _). leaves (refused 1) args.store.now x)
     (sym (c.clear.ensures ∙ cleared check-store.new.scratch v.1))
-

@@ -9,10 +9,8 @@ returns-in_default c =
     asks_refused c.args.store.now c.args.scratch.now c.args.context.0 a.new.scratch a.result a.ensures
     c.in_default.field-0 c.in_default.is
 
-
 pub returns : goal.returns
 returns c =
     let a = c.admit-admitted in
     asks_known c.args.store.now c.args.scratch.now c.args.context.0 a.new.scratch a.result a.ensures
     c.in-Ready.is _ c.clear.ensures
-

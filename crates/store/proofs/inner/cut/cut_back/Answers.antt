@@ -10,4 +10,3 @@ returns c =
     let clear-range2 = c.clear_range-2 in
     let clear-range3 = c.clear_range-3 in
     rw (c.put_counts.ensures, clear-range3.ensures, clear-range2.ensures, clear-range.ensures)
-

@@ -11,7 +11,5 @@ use Rattle.storecheck.proofs.inner.check.check_records.Given as goal
 abbrev pub invariant-loop-context : goal.invariant-loop-context
 invariant-loop-context l = Passed l.store l.scratch l.context l.pool × (l.context ≤ l.count)
 
-
 abbrev pub decreases-loop-context : goal.decreases-loop-context
 decreases-loop-context l = l.count - l.context
-

@@ -22,4 +22,3 @@ returns c =
       rw (c.add_to_index.ensures, clear-heads.ensures)
           (root_passed args.store.now args.scratch.now empty-hash.result pre.0 pre.1 r empty-hash.ensures),
     )
-

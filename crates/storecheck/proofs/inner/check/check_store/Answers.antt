@@ -19,7 +19,6 @@ returns-in_default c =
     let bad = rw e at check-records.ensures in
     (λ v. bad.0 (λ d a b. sound_record args.store.now v d a (rw count_of.ensures at b)), bad.1)
 
-
 pub returns-then-pool-used : goal.returns-then-pool-used
 returns-then-pool-used c =
     let args = c.args in
@@ -30,7 +29,6 @@ returns-then-pool-used c =
     let p : Passed args.store.now check-records.new.scratch count_of.result c.in-Good.pool = rw e at check-records.ensures in
     let q : Passed args.store.now check-records.new.scratch (count args.store.now) c.in-Good.pool = rw count_of.ensures at p in
     (λ v. c.if-pool-used.true (q.filled ∙ sym (used_lengths args.store.now v) ∙ sym used-of.ensures), p.index.sized)
-
 
 pub returns : goal.returns
 returns c =
@@ -51,4 +49,3 @@ returns c =
     (c.if-pool-used.false ∙ used-of.ensures) (rw (t, count_of.ensures, used-of.ensures) at c.unused_zero.ensures))
     (λ f v. (rw (f, count_of.ensures, used-of.ensures) at c.unused_zero.ensures) (sound_unused args.store.now v))
     p.index.sized
-

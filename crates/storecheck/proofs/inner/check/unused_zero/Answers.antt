@@ -15,14 +15,12 @@ returns-then-not-all_zero c =
     (sym (c.if-not-all_zero.true) ∙ c.all_zero.ensures ∙ zero_records args.store.now
     args.count args.used u)
 
-
 pub returns-then-not-all_zero-2 : goal.returns-then-not-all_zero-2
 returns-then-not-all_zero-2 c =
     let args = c.args in
     λ u. false≢true
     (sym (c.if-not-all_zero-2.true) ∙ c.all_zero-2.ensures ∙ zero_parents args.store.now
     args.count args.used u)
-
 
 pub returns : goal.returns
 returns c =
@@ -34,4 +32,3 @@ returns c =
     (sym all-zero.ensures ∙ c.if-not-all_zero.false)
     (sym all-zero2.ensures ∙ c.if-not-all_zero-2.false) (sym c.all_zero-3.ensures ∙ t))
     (λ f u. false≢true (sym f ∙ c.all_zero-3.ensures ∙ zero_states args.store.now args.count args.used u))
-
