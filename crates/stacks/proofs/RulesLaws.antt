@@ -33,10 +33,10 @@ same_empty C D c d (x ∷ σ) = c.1 x σ ∙ sym (d.1 x σ)
 
 -- the second sentence, of a result that is at hand
 pub record Otherwise (A B D : Stacks) : Type 0 where
-  empty : D [] ≡ (A [] || B [])
-  left : (x : ℕ) → NoTop B x → (σ : List ℕ) → D (x ∷ σ) ≡ A (x ∷ σ)
-  right : (x : ℕ) → NoTop A x → (σ : List ℕ) → D (x ∷ σ) ≡ B (x ∷ σ)
-  both : (x : ℕ) → Top A x → Top B x → WildcardMerge (beneath A x) (beneath B x) (beneath D x)
+  pub empty : D [] ≡ (A [] || B [])
+  pub left : (x : ℕ) → NoTop B x → (σ : List ℕ) → D (x ∷ σ) ≡ A (x ∷ σ)
+  pub right : (x : ℕ) → NoTop A x → (σ : List ℕ) → D (x ∷ σ) ≡ B (x ∷ σ)
+  pub both : (x : ℕ) → Top A x → Top B x → WildcardMerge (beneath A x) (beneath B x) (beneath D x)
 
 pub otherwise : {A B D : Stacks} → WildcardMerge A B D → (OnlyEmpty A ⊎ OnlyEmpty B → ⊥) → Otherwise A B D
 otherwise (swallowed h d) n = absurd (n h)
