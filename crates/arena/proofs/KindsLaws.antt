@@ -1,7 +1,7 @@
 -- Lists of entries by their size: which context each is interned as, and which have entries in the pool. Nothing here has to be believed.
 use Rattle.std.specs.Prelude.{◌≡◌, refl, ◌<◌, ◌≤◌, length}
 use Rattle.std.proofs.Common.{arith}
-use Rattle.arena.specs.Store.{Node, end, dollar, push, Store, node_at, at}
+use Rattle.arena.specs.Store.{Node, end, dollar, push, Store, node_at}
 use Rattle.arena.proofs.Soundness.{Rise, Full, Sound}
 use Rattle.arena.proofs.Trees.{node_sound}
 use Rattle.arena.specs.Place.{listed, intern}

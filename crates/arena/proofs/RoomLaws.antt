@@ -1,5 +1,5 @@
 -- The room that a store takes only grows: code that stops at the first overflow is right. Nothing here has to be believed.
-use Rattle.std.specs.Prelude.{[], ◌∷◌, ◌++◌, ◌≤◌, ◌+◌, length}
+use Rattle.std.specs.Prelude.{[], ◌∷◌, ◌++◌, ◌≤◌, length}
 use Rattle.std.proofs.Common.{arith}
 use Rattle.arena.specs.Store.{Store}
 use Rattle.arena.proofs.Placed.{Grew, grew_length}

@@ -1,7 +1,7 @@
 -- What a merge call promises, over its definition alone: an accepted one is the union, or satisfies document 01's wildcard sentences; a sound
 -- store knows the number; older sets kept; the numbering rule; sides exchanged; a refused one exactly when, and with nothing changed; its
 -- outcome determined. Nothing here has to be believed.
-use Rattle.std.specs.Prelude.{◌≡◌, ◌↔◌, Bool, true, false, not, ◌&&◌, ◌||◌, List, [], ◌∷◌, ltb}
+use Rattle.std.specs.Prelude.{◌≡◌, ◌↔◌, Bool, true, false, ◌||◌, List}
 use Rattle.std.proofs.Math.Path.{refl, sym, ap}
 use Rattle.std.proofs.Common.{◌∙◌, arith}
 use Prim.Native.Nat.{ℕ, ◌+◌, ◌-◌, ◌<◌, ◌≤◌}

@@ -1,6 +1,6 @@
 -- The test decides soundness. Nothing here has to be believed.
 use Rattle.std.specs.Prelude.{◌≡◌, refl, Bool, true, false, List, [], ◌∷◌, ℕ, suc, eqb, ltb, leb, length}
-use Rattle.std.proofs.Common.{sym, ap, subst, arith, eqb-true, eq-eqb, ltb-true, lt-ltb, leb-true, le-leb}
+use Rattle.std.proofs.Common.{sym, subst, arith, eqb-true, eq-eqb, ltb-true, lt-ltb, leb-true, le-leb}
 use Rattle.std.proofs.lemmas.Bool.{false≢true}
 use Rattle.arena.specs.Store.{Node, end, dollar, push, Store, Found, at, nowhere, find}
 use Rattle.arena.proofs.Soundness.{Rise, Full, Sound}

@@ -1,18 +1,16 @@
 -- Sound words hold a good store, and are the words of that store: with `encoded`, sound words are exactly those of a good store.
 -- Nothing here has to be believed.
 use Rattle.std.specs.Prelude.{◌≡◌, refl, ◌↔◌, List, length}
-use Rattle.std.proofs.Common.{sym, ap, ◌∙◌, subst, inl, inr, arith}
-use Prim.Native.Nat.{ℕ, zero, suc, ◌<◌, ◌≤◌, ◌+◌}
+use Rattle.std.proofs.Common.{sym, ap, ◌∙◌, subst, arith}
+use Prim.Native.Nat.{ℕ, zero, suc, ◌<◌, ◌≤◌}
 use Rattle.arena.specs.Store.{Node, end, dollar, push, Store, nowhere, find}
 use Rattle.arena.proofs.Soundness.{Rise, Full, Sound}
 use Rattle.arena.proofs.Trees.{find?, find_at}
 use Rattle.arena.specs.Kinds.{size}
-use Rattle.arena.proofs.KindsLaws.{room_many}
-use Rattle.arena.specs.Room.{room, pool}
+use Rattle.arena.specs.Room.{pool}
 use Rattle.arena.proofs.Below.{NodeBelow, StoreBelow}
-use Rattle.layout.specs.Layout.{store_words, stop, count, used, kind, first, second, parent, state}
-use Rattle.layout.specs.Listing.{listing}
-use Rattle.layout.specs.Listing.Laws.{listing_size, listing_rise, listing_below, listing_full, listing_inj, Entries}
+use Rattle.layout.specs.Layout.{store_words, stop, count, kind, first, second, parent, state}
+use Rattle.layout.specs.Listing.Laws.{listing_rise, listing_below, listing_full}
 use Rattle.layout.specs.Decode.{node_in, store_in, store_of}
 use Rattle.layout.specs.Decode.Laws.{store_length, store_node, node_zero, node_one, node_many}
 use Rattle.layout.specs.Sound.{SoundWords}

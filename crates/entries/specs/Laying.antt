@@ -1,6 +1,6 @@
 -- One entry more on the entry stack of a live store. Nothing here has to be believed.
 use Rattle.std.specs.Prelude.{◌≡◌, List, ℕ, suc, ◌<◌, ◌≤◌, ◌+◌, ◌*◌, length, get_or}
-use Rattle.std.proofs.Common.{sym, arith, get_or-set_other}
+use Rattle.std.proofs.Common.{arith, get_or-set_other}
 use Rattle.arena.specs.Store.{Node, Store}
 use Rattle.layout.specs.Layout.{scratch_words, stop}
 use Rattle.layout.specs.Scratch.{stack_parent, stack_state}

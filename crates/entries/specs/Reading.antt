@@ -1,5 +1,5 @@
 -- What the words of a known context say of its entries, by kind. Nothing here has to be believed.
-use Rattle.std.specs.Prelude.{◌≡◌, refl, List, ℕ, zero, suc, ◌<◌, ◌≤◌, ◌+◌}
+use Rattle.std.specs.Prelude.{◌≡◌, refl, List, ℕ, ◌<◌, ◌+◌}
 use Rattle.std.proofs.Common.{sym, ◌∙◌, arith}
 use Rattle.std.proofs.Math.Path.{ap}
 use Rattle.arena.specs.Store.{Node, end, dollar, push, node_at}

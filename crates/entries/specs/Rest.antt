@@ -20,7 +20,7 @@ use Rattle.index.specs.Writes.{put_entry}
 use Rattle.store.specs.Asks.{Known}
 use Rattle.interning.specs.Live.{Live, Pushed, GrewTo, live_sound, live_count, live_length}
 use Rattle.interning.specs.Interned.{More, Interns}
-use Rattle.work.proofs.Heads.{head_state, head_parent, cons, tail, cons_stop, cons_push}
+use Rattle.work.proofs.Heads.{head_state, head_parent}
 use Rattle.entries.specs.EntriesFrom.{rest, rest_next, rest_size, rest_none, size_full, rest_rise, rest_below, head_rises, head_most, head_older, head_dollar, head_cons}
 use Rattle.entries.specs.StackAhead.{onto_listing}
 use Rattle.entries.specs.StackEntry.{Under, under_le}

@@ -8,7 +8,7 @@ use Rattle.sets.specs.Lists.{any}
 use Rattle.groups.specs.Lists.{Any, All, In, Rising, which}
 use Rattle.groups.specs.Lists.Laws.{some_map, some_in, in_some, every_map, every_in, in_every, rising_unique, some_made, made_some, every_made, made_every}
 use Rattle.groups.specs.Lists.Tests.{any_exact, all_exact, which_some, some_which}
-use Rattle.groups.specs.Groups.{Group, rising, alts_of, together, firsts, subset, groups}
+use Rattle.groups.specs.Groups.{Group, alts_of, together, firsts, subset, groups}
 use Rattle.groups.specs.Answers.{many, conflicting_alts, all_subsets_conflict}
 use Rattle.groups.specs.Sentences.{Many, ConflictUnion, Conflict}
 use Rattle.groups.proofs.Rising.{rising_rises, in_rising, alts_rise, Passes, in_passing}

@@ -1,6 +1,6 @@
 -- The reason given is true of the set, no earlier reason held, and the two together force the verdict; they leave no choice.
 -- Nothing here has to be believed.
-use Rattle.std.specs.Prelude.{◌≡◌, ◌⊎◌, ◌↔◌, Bool, ◌&&◌, not, ℕ}
+use Rattle.std.specs.Prelude.{◌≡◌, ◌↔◌, Bool, ◌&&◌, not, ℕ}
 use Rattle.std.proofs.Math.Path.{refl, subst}
 use Rattle.std.proofs.Common.{sym, ap, ap₂, ◌∙◌, ⊎_elim}
 use Rattle.std.proofs.Math.Logic.{inl, inr}
@@ -10,7 +10,7 @@ use mathlib.Core.List.{List, [], ◌∷◌}
 use Rattle.cases.specs.Bools.{bool?, is_false, never_both}
 use Rattle.sets.specs.Config.{Config}
 use Rattle.sets.specs.Lists.{any}
-use Rattle.groups.specs.Lists.{Any, All, In}
+use Rattle.groups.specs.Lists.{All, In}
 use Rattle.groups.specs.Lists.Laws.{some_in, in_some, every_in}
 use Rattle.groups.specs.Lists.Tests.{or_true, any_exact}
 use Rattle.groups.specs.Groups.{Group, groups}

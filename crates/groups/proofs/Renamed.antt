@@ -1,6 +1,6 @@
 -- Where two lists of configs differ in their context numbers only, as the same configs in two stores do, groups and the reason agree up to the
 -- contexts and all other answers are equal. Nothing here has to be believed.
-use Rattle.std.specs.Prelude.{◌≡◌, ◌↔◌, Bool, true, false, ℕ, suc, length, get_or}
+use Rattle.std.specs.Prelude.{◌≡◌, ◌↔◌, Bool, true, false, ℕ, suc, length}
 use Rattle.std.proofs.Math.Path.{refl, ap, ap₂, subst₂}
 use Rattle.std.proofs.Common.{sym, ◌∙◌, inl, inr, ⊎_elim, eqb-true, eq-eqb}
 use Rattle.std.proofs.Math.Bool.{◌&&◌, ◌||◌, not}

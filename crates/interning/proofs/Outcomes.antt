@@ -17,7 +17,6 @@ use Rattle.layout.specs.Scratch.{stack_parent, stack_state}
 use Rattle.layout.specs.Decode.{store_of}
 use Rattle.layout.specs.Ceilings.{Fits}
 use Rattle.layout.specs.Encode.{words_of}
-use Rattle.encoding.specs.Decide.{fits}
 use Rattle.encoding.proofs.DecideLaws.{true_fits, fits_false}
 use Rattle.index.specs.Records.{stack_node}
 use Rattle.index.specs.Writes.{put_entry}

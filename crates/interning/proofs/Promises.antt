@@ -7,9 +7,8 @@ use Rattle.std.proofs.Math.Bool.{or-false}
 use Prim.Native.Nat.{ℕ, suc, ◌+◌, ◌-◌, ◌<◌, ◌≤◌}
 use native.Mathlib.Omega.{arith}
 use Rattle.std.proofs.Math.ListN.{length}
-use Rattle.std.proofs.lemmas.Bool.{lt-leb}
-use Rattle.cases.specs.Bools.{bool?, never_both}
-use Rattle.cases.specs.Numbers.{two, below?, never}
+use Rattle.cases.specs.Bools.{bool?}
+use Rattle.cases.specs.Numbers.{below?, never}
 use Rattle.words.specs.Names.{empty_mark}
 use Rattle.words.specs.Refusals.{number}
 use Rattle.stacks.specs.Forest.{Forest, none, mark, over, mem}

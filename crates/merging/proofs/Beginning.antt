@@ -1,25 +1,24 @@
 -- The needs of `merge`, place by place: equal numbers, a result kept, too much work, and else a merge that counts. Nothing here has to be believed.
-use Rattle.std.specs.Prelude.{◌≡◌, refl, Bool, true, false, List, length, get_or, set}
+use Rattle.std.specs.Prelude.{◌≡◌, refl, Bool, true, false, List, length, get_or}
 use Rattle.std.proofs.Common.{sym, ◌∙◌, ⊎_elim, arith, length-set, get_or-set_other}
 use Rattle.std.proofs.Math.Path.{ap}
 use Prim.Native.Nat.{ℕ, suc, ◌<◌, ◌≤◌, ◌+◌, ◌*◌, min, max}
-use Rattle.arena.specs.Store.{Found, at, nowhere, node_at}
+use Rattle.arena.specs.Store.{nowhere}
 use Rattle.arena.proofs.Placed.{grew_refl}
 use Rattle.layout.specs.Layout.{scratch_words, most_contexts}
 use Rattle.layout.specs.Decode.{store_of}
 use Rattle.index.specs.Grow.{index_frame}
 use Rattle.interning.specs.Live.{Live}
-use Rattle.work.specs.Counted.{most_merges, State, standing, Outcome, done, refused, and_then, completed, made, begins, recall, counted}
+use Rattle.work.specs.Counted.{State, Outcome, done, refused, and_then, completed, made, begins, recall, counted}
 use Rattle.work.proofs.Equations.{merge_equal, merge_hit, merge_refused, merge_counts, swallowed_left, swallowed_right, walked as made-walked}
 use Rattle.work.proofs.Served.{begins_good, made_after}
 use Rattle.work.proofs.Depth.{counted_serves}
 use Rattle.arena.specs.Place.{merge_s}
 use Rattle.arena.proofs.Steps.{merge_holds}
-use Rattle.work.proofs.After.{Good}
 use Rattle.words.specs.Refusals.{number}
 use Rattle.words.specs.declared.names.ContextId.{ContextId}
 use Rattle.words.specs.declared.refusals.Refusal.{Refusal}
-use Rattle.cache.specs.Cache.{CacheSound, Asked, Remembered, Counts, kept_of, merges_counted}
+use Rattle.cache.specs.Cache.{Asked, Remembered, Counts, kept_of, merges_counted}
 use Rattle.cache.specs.Frames.{counted_sound, counted_kept, counted_merges}
 use Rattle.cache.specs.Recalled.{recalled}
 use Rattle.cache.specs.declared.lookup.Recall.{Recall}

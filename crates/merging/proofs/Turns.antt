@@ -1,21 +1,21 @@
 -- The needs of `merge_entries`, place by place. Nothing here has to be believed.
-use Rattle.std.specs.Prelude.{◌≡◌, refl, Bool, List, length}
+use Rattle.std.specs.Prelude.{◌≡◌, Bool, List, length}
 use Rattle.std.proofs.Common.{sym, ◌∙◌, arith, add-one}
 use Rattle.std.proofs.Math.Path.{ap}
 use Prim.Native.Nat.{ℕ, suc, ◌<◌, ◌≤◌, ◌+◌}
 use Rattle.cases.specs.Numbers.{two}
 use Rattle.arena.specs.Store.{Node, node_at, tree}
 use Rattle.arena.specs.Kinds.{size}
-use Rattle.arena.specs.Place.{merge_s, intern}
-use Rattle.arena.proofs.Placed.{Grew, grew_length, grew_trans}
+use Rattle.arena.specs.Place.{merge_s}
+use Rattle.arena.proofs.Placed.{Grew, grew_length}
 use Rattle.arena.proofs.Steps.{merge_holds}
 use Rattle.layout.specs.Layout.{most_contexts}
 use Rattle.layout.specs.Decode.{store_of}
 use Rattle.index.specs.Writes.{put_entry}
 use Rattle.interning.specs.Interned.{More, answered}
 use Rattle.store.specs.Asks.{Known}
-use Rattle.work.specs.Counted.{State, Outcome, done, refused, and_then, walk, interned, counted}
-use Rattle.work.proofs.Heads.{head_state, head_parent}
+use Rattle.work.specs.Counted.{State, Outcome, refused, and_then, interned, counted}
+use Rattle.work.proofs.Heads.{head_state}
 use Rattle.work.proofs.After.{Good, Went}
 use Rattle.work.proofs.Exchange.{counted_even, walk_even}
 use Rattle.work.proofs.Theorems.{came}
@@ -29,7 +29,7 @@ use Rattle.entries.specs.declared.pairs.Entry.{Entry}
 use Rattle.entries.specs.Laying.{ahead}
 use Rattle.merging.specs.Ends.{ends, ends_grew}
 use Rattle.merging.specs.Standing.{state_of, walked, Mergeable, Apart, Reached, Stuck, Ended, stuck_from}
-use Rattle.merging.proofs.Walking.{Sorted, Walking, exchanged, walking_start, take_left, take_both, no_inner, right_done, extended}
+use Rattle.merging.proofs.Walking.{Sorted, Walking, walking_start, take_left, take_both, no_inner, right_done, extended}
 use Rattle.merging.proofs.Sides.{sorted_of, head_before, head_le, size_ends, head_ends, later_below, later_known, later_node}
 use Rattle.interning.specs.declared.inner.intern.Interned.{Interned}
 

@@ -1,21 +1,18 @@
 -- What the walk over two records' entries keeps from turn to turn. Nothing here has to be believed.
-use Rattle.std.specs.Prelude.{◌≡◌, refl, Bool, false, List, length}
+use Rattle.std.specs.Prelude.{◌≡◌, refl, Bool, List, length}
 use Rattle.std.proofs.Common.{sym, ◌∙◌, arith}
 use Rattle.std.proofs.Math.Path.{ap}
 use Rattle.std.proofs.Math.Bool.{true}
-use Prim.Native.Nat.{ℕ, suc, ◌<◌, ◌≤◌, ◌+◌, ◌*◌}
-use Rattle.arena.specs.Store.{Node, end, Store}
-use Rattle.arena.proofs.Soundness.{Rise, Full}
+use Prim.Native.Nat.{ℕ, suc, ◌<◌, ◌≤◌, ◌+◌}
+use Rattle.arena.specs.Store.{Node, Store}
+use Rattle.arena.proofs.Soundness.{Rise}
 use Rattle.arena.specs.Kinds.{size}
 use Rattle.arena.proofs.Below.{NodeBelow}
 use Rattle.arena.proofs.Trees.{rise_le}
-use Rattle.arena.proofs.Placed.{Grew, grew_refl, grew_trans, grew_length, intern_grew}
+use Rattle.arena.proofs.Placed.{Grew, grew_refl, grew_trans, grew_length}
 use Rattle.arena.specs.Place.{intern}
 use Rattle.layout.specs.Layout.{stop}
-use Rattle.layout.specs.Scratch.{stack_parent, stack_state}
-use Rattle.layout.specs.Listing.Laws.{Entries}
 use Rattle.layout.specs.Decode.{store_of}
-use Rattle.layout.specs.Ceilings.{Fits}
 use Rattle.encoding.specs.Decide.{fits}
 use Rattle.encoding.proofs.DecideLaws.{true_fits, fits_false}
 use Rattle.index.specs.Writes.{put_entry}
@@ -24,15 +21,15 @@ use Rattle.interning.specs.Interned.{More, answered}
 use Rattle.work.specs.Counted.{State, standing, Outcome, done, refused, and_then, walk, interned, counted}
 use Rattle.work.proofs.Equations.{onward, onward_same, onward_onward, walk_end, merge_equal}
 use Rattle.work.proofs.Exchange.{counted_even, walk_even}
-use Rattle.work.proofs.Heads.{head_state, head_parent, cons, tail, Heads, head_less, head_equal, head_refused}
+use Rattle.work.proofs.Heads.{head_state, head_parent, cons, Heads, head_less, head_equal, head_refused}
 use Rattle.work.proofs.After.{Good}
 use Rattle.cache.specs.Cache.{CacheSound, kept_of, merges_counted}
 use Rattle.cache.specs.Frames.{cache_frame}
 use Rattle.entries.specs.EntriesFrom.{rest, rest_next, rest_size, rest_none, size_full, rest_rise, rest_below, head_rises, head_most, head_older, head_dollar}
 use Rattle.entries.specs.StackEntry.{SameStack, Under, under_le, moved_entries, moved_under, moved_onto}
-use Rattle.entries.specs.Laying.{Stacks, ahead, SameBelow, Next, Laid, lay}
+use Rattle.entries.specs.Laying.{Stacks, ahead, Next, Laid, lay}
 use Rattle.entries.specs.Rest.{Extended, Extends}
-use Rattle.merging.specs.Standing.{state_of, SameCache, state_moved, Reached, Stuck, Ended}
+use Rattle.merging.specs.Standing.{state_of, SameCache, state_moved, Reached, Ended}
 use Rattle.interning.specs.declared.inner.intern.Interned.{Interned}
 use Rattle.interning.specs.declared.inner.intern.Interned.TheVariants.{Found, Made, NoRoom}
 

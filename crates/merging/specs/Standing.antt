@@ -1,6 +1,6 @@
 -- Where a call stands, by its words; what a merge is given and what it leaves. Nothing here has to be believed.
 use Rattle.std.specs.Prelude.{◌≡◌, refl, ◌⊎◌, Bool, true, false, List, ℕ, ◌<◌, ◌≤◌, ◌+◌, eqb, length, get_or}
-use Rattle.std.proofs.Common.{sym, ap, ◌∙◌, inr, arith, eqb-true}
+use Rattle.std.proofs.Common.{ap, ◌∙◌, inr, arith, eqb-true}
 use Rattle.std.proofs.lemmas.Bool.{eqb-false}
 use Rattle.arena.specs.Store.{Node, node_at}
 use Rattle.arena.proofs.Placed.{Grew, grew_trans}

@@ -1,6 +1,6 @@
 -- Two outcomes of a query that satisfy its contract for the same input are equal: the answers, case and value, and every word.
 -- Nothing here has to be believed.
-use Rattle.std.specs.Prelude.{◌≡◌, refl, List, [], ℕ}
+use Rattle.std.specs.Prelude.{◌≡◌, refl, List, ℕ}
 use Rattle.std.proofs.Common.{ap}
 use Rattle.store.proofs.Told.{number_tells}
 use Rattle.store.specs.Calls.{Reply, Left, leaves}

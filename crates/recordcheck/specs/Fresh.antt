@@ -1,7 +1,6 @@
 -- Entries on the stack that are looked for among the records before them. Nothing here has to be believed.
 use Rattle.std.specs.Prelude.{◌≡◌, List, ◌∷◌, ℕ, length}
 use Rattle.std.proofs.Common.{◌∙◌, arith}
-use Rattle.arena.specs.Store.{at}
 use Rattle.layout.specs.Scratch.{stack_parent, stack_state}
 use Rattle.layout.specs.Listing.Laws.{entries_le, listing_rise}
 use Rattle.layout.specs.Decode.{store_in}

@@ -1,5 +1,5 @@
 -- Three wildcard merges: nothing lost, a tail lost, a whole side swallowed. Nothing here has to be believed: all are computed.
-use Rattle.std.specs.Prelude.{◌≡◌, refl, true, ◌&&◌, ◌||◌, ltb}
+use Rattle.std.specs.Prelude.{◌≡◌, refl, true}
 use Rattle.stacks.specs.Forest.{none, mark, over}
 use Rattle.stacks.specs.Merge.{is_mark, wild, merge_e, merge_t}
 

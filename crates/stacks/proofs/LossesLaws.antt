@@ -3,7 +3,7 @@ use Rattle.std.specs.Prelude.{◌≡◌, refl, ◌↔◌, ◌⊎◌, Bool, true,
 use Rattle.std.proofs.Common.{sym, ap, ◌∙◌, subst, inl, inr}
 use Rattle.std.proofs.Math.Bool.{or-true}
 use Rattle.std.proofs.lemmas.Bool.{false≢true}
-use Rattle.cases.specs.Bools.{bool?, bool_stable, is_false, or_cases}
+use Rattle.cases.specs.Bools.{bool_stable, or_cases}
 use Rattle.stacks.specs.Forest.{Forest, none, mark, over, mem}
 use Rattle.stacks.specs.Canon.{Some, Canon}
 use Rattle.stacks.specs.Beneath.{under, under_canon, mem_under, first, mem_first}

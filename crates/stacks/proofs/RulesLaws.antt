@@ -1,15 +1,6 @@
 -- Document 01's sentences on merges hold of `merge_t` and leave no choice. Nothing here has to be believed.
-use Rattle.std.specs.Prelude.{◌≡◌, refl, ◌⊎◌, Bool, true, false, ◌||◌, List, [], ◌∷◌, ℕ}
-use Rattle.std.proofs.Common.{sym, ap, ◌∙◌, inl, inr, ⊎_elim}
-use Rattle.std.proofs.Math.Path.{subst₃, fun_ext}
-use Rattle.std.proofs.lemmas.Bool.{false≢true}
-use Rattle.stacks.specs.Forest.{Forest, none, mark, over, mem}
-use Rattle.stacks.specs.Canon.{Canon}
-use Rattle.stacks.specs.Beneath.{under, under_canon, mem_under, by_under, first, mem_first, ext}
-use Rattle.stacks.specs.Merge.{is_mark, merge_e, merge_t}
-use Rattle.stacks.proofs.MergeLaws.{merge_t_plain, merge_t_full, none_merge_t, merge_t_none, mark_merge_t, merge_t_mark}
-use Rattle.stacks.proofs.Algebra.{mark?, under_merge, empty_merge, from_merge, canon_merge}
-use Rattle.cases.specs.Bools.{bool_stable, is_false}
+use Rattle.std.specs.Prelude.{◌≡◌, ◌⊎◌, Bool, true, false, ◌||◌, List, [], ◌∷◌, ℕ}
+use Rattle.std.proofs.Common.{sym, ◌∙◌}
 use Rattle.stacks.specs.Rules.{Stacks, OnlyEmpty, beneath, Top, WildcardMerge, swallowed, merged}
 
 -- x is a top state of no stack

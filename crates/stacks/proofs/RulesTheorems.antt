@@ -1,5 +1,5 @@
 -- Document 01's sentences on merges leave no choice and hold of `merge_t`. Nothing here has to be believed.
-use Rattle.std.specs.Prelude.{◌≡◌, refl, ◌⊎◌, Bool, true, false, ◌||◌, List, [], ◌∷◌, ℕ}
+use Rattle.std.specs.Prelude.{◌≡◌, refl, Bool, true, false, List, [], ◌∷◌, ℕ}
 use Rattle.std.proofs.Common.{sym, ap, ◌∙◌, inl, inr, ⊎_elim}
 use Rattle.std.proofs.Math.Path.{subst₃, fun_ext}
 use Rattle.std.proofs.lemmas.Bool.{false≢true}

@@ -10,7 +10,7 @@ use Rattle.arena.specs.Store.{dollar, find}
 use Rattle.arena.proofs.Soundness.{Sound}
 use Rattle.arena.proofs.Trees.{nodes_differ}
 use Rattle.arena.specs.Room.{pool}
-use Rattle.layout.specs.Layout.{store_words, scratch_words, count, used, kind, first, second, parent, state}
+use Rattle.layout.specs.Layout.{store_words, scratch_words, count, used, kind, first, parent, state}
 use Rattle.layout.specs.Decode.{node_in, store_in, store_of}
 use Rattle.layout.specs.Decode.Laws.{store_length, store_node, node_zero}
 use Rattle.layout.specs.Sound.{SoundWords}

@@ -1,5 +1,5 @@
 -- The public merge: from the cycle's outcome to what the call leaves. Nothing here has to be believed.
-use Rattle.std.specs.Prelude.{◌≡◌, Bool, false, ℕ, ◌-◌, ◌<◌, ◌≤◌, get_or, replicate}
+use Rattle.std.specs.Prelude.{◌≡◌, Bool, false, ℕ, ◌-◌, ◌<◌, ◌≤◌, replicate}
 use Rattle.std.proofs.Math.Path.{refl, sym, ap}
 use Rattle.std.proofs.Common.{◌∙◌, arith}
 use Rattle.std.proofs.Math.Logic.{⊎_elim}
@@ -17,14 +17,13 @@ use Rattle.arena.proofs.Steps.{merge_sides}
 use Rattle.layout.specs.Layout.{count, used}
 use Rattle.layout.specs.Decode.{store_of}
 use Rattle.layout.specs.Encode.{words_of}
-use Rattle.layout.specs.Ceilings.{Fits}
 use Rattle.encoding.specs.Decide.{fits}
 use Rattle.encoding.proofs.DecideLaws.{true_fits, fits_false}
 use Rattle.encoding.specs.Cut.{cut, cut_back}
 use Rattle.index.specs.Grow.{index_frame}
-use Rattle.work.specs.Counted.{Outcome, done, refused as over, State, standing, counted, counting, too_much, count_of}
+use Rattle.work.specs.Counted.{Outcome, done, refused as over, State, counted, counting, too_much, count_of}
 use Rattle.work.proofs.Theorems.{answer_is, answer_fits, refusal_is, sides_exchanged}
-use Rattle.cache.specs.Cache.{Emptied, kept_of, merges_counted}
+use Rattle.cache.specs.Cache.{Emptied, merges_counted}
 use Rattle.store.specs.Admit.{Admits, cleared, known_goes, unknown}
 use Rattle.store.specs.declared.inner.admit.Admitted.{Admitted}
 use Rattle.store.specs.declared.inner.admit.Admitted.TheVariants.{Ready as ready, Refused}

@@ -14,12 +14,12 @@ use Rattle.arena.specs.Store.{Store, tree}
 use Rattle.arena.specs.Place.{place}
 use Rattle.layout.specs.Layout.{store_words, scratch_words, stop}
 use Rattle.layout.specs.Decode.{store_of}
-use Rattle.encoding.specs.Decide.{sound, fits}
+use Rattle.encoding.specs.Decide.{sound}
 use Rattle.encoding.proofs.DecideLaws.{sound_true, true_fits}
 use Rattle.encoding.specs.Decoded.{decoded}
 use Rattle.store.specs.Checks.{given, unless}
 use Rattle.store.specs.Checks.Laws.{unless_first, unless_next}
-use Rattle.store.specs.Calls.{refused, context, Left, kept, refusal, unknown_context, no_room, gives}
+use Rattle.store.specs.Calls.{refused, context, Left, kept, refusal, no_room, gives}
 use Rattle.store.specs.Nested.{if_lengths, if_sound, if_known, checked, grown, checked_nested, known_nested, room_nested}
 use Rattle.interning.specs.SingletonCall.{single_s, singleton_checks, singleton_call}
 

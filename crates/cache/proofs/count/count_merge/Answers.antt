@@ -1,5 +1,4 @@
 -- The count is read, compared and written.
-use borrow.Author.Rules.{rules}
 use mathlib.Core.Path.{refl, ap}
 use native.Mathlib.Omega.{arith}
 use native.Mathlib.Numerals.{add-one}
@@ -13,8 +12,6 @@ returns-then-counted-lt-MOST_MERGES c =
     let z = c.args.scratch.now in
     (omega (arith, c.if-counted-lt-MOST_MERGES.true), ap (set z 16337) (add-one (get_or z 16337 0)))
 
-
 pub returns : goal.returns
 unfolding merges_counted
 returns c = (omega (arith, c.if-counted-lt-MOST_MERGES.false), refl)
-

@@ -1,5 +1,4 @@
 -- A result is put in front of its chain, by `put_remembered`; else as many are kept as are to be.
-use borrow.Author.Rules.{rules}
 use native.Mathlib.Omega.{arith}
 use Rattle.cache.specs.Cache.{kept_count}
 use Rattle.cache.specs.Keeping.{none_remembered, put_remembered}
@@ -12,7 +11,6 @@ returns-then-kept-ge-MOST_RESULTS c =
     none_remembered given.scratch.now given.root_is_wildcard given.left.0 given.right.0 given.res.0 c.requires.0
     c.requires.1 (omega (arith, c.if-kept-ge-MOST_RESULTS.true))
 
-
 pub returns : goal.returns
 unfolding kept_count
 returns c =
@@ -21,4 +19,3 @@ returns c =
     rw c.put_result.ensures
     (put_remembered given.scratch.now given.root_is_wildcard given.left.0 given.right.0 given.res.0 c.requires.0
     c.requires.1 key.result key.ensures.0 key.ensures.1 (omega (arith, c.if-kept-ge-MOST_RESULTS.false)))
-

@@ -1,5 +1,4 @@
 -- The bucket is a remainder.
-use borrow.Author.Rules.{rules}
 use mathlib.Core.Path.{refl}
 use native.Mathlib.Omega.{arith}
 use Rattle.cache.specs.Cache.{bucket_of}
@@ -8,4 +7,3 @@ use Rattle.cache.proofs.keys.bucket.Goals as goal
 pub returns : goal.returns
 unfolding bucket_of
 returns c = (refl, omega arith)
-

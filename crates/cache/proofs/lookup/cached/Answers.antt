@@ -1,11 +1,10 @@
 -- The chain is followed link by link; what is known at a link is `Going`, for every pair with that key, and each step is a lemma of `Search`.
-use borrow.Author.Rules.{rules}
 use native.Mathlib.Omega.{arith}
-use mathlib.Core.Path.{◌≡◌, sym, ap, ◌∙◌}
-use Prim.Native.Nat.{ℕ, ◌≤◌, max, min}
-use Rattle.cache.specs.Cache.{bucket_head, bucket_of, key_of, result_link, result_word}
+use mathlib.Core.Path.{sym, ap, ◌∙◌}
+use Prim.Native.Nat.{max, min}
+use Rattle.cache.specs.Cache.{bucket_head, bucket_of, result_link, result_word}
 use Rattle.cache.specs.Keys.{sides_small}
-use Rattle.cache.specs.Search.{Going, begin, head_small, hit, missing, onward}
+use Rattle.cache.specs.Search.{begin, head_small, hit, missing, onward}
 use Rattle.cache.proofs.lookup.cached.Goals as goal
 
 pub loop-next-init : goal.loop-next-init
@@ -16,7 +15,6 @@ loop-next-init c =
       head_small z c.requires.sound bucket.result bucket.ensures.1,
       λ a b e. begin z c.args.root_is_wildcard a b c.requires.sound bucket.result (bucket.ensures.0 ∙ ap bucket_of e) bucket.ensures.1,
     )
-
 
 pub returns-then-word-key : goal.returns-then-word-key
 unfolding result_word
@@ -30,7 +28,6 @@ returns-then-word-key c =
     (hit c.args.scratch.now c.args.root_is_wildcard a b c.requires.sound at.next (at.invariant.1 a b key.ensures.0)
     c.loop-next-test.true small.0 small.1 (c.if-word-key.true ∙ key.ensures.0))
 
-
 pub loop-next-smaller : goal.loop-next-smaller
 unfolding result_word result_link
 loop-next-smaller c =
@@ -41,7 +38,6 @@ loop-next-smaller c =
     (onward c.args.scratch.now c.args.root_is_wildcard a b c.requires.sound at.next (at.invariant.1 a b key.ensures.0)
     c.loop-next-test.true (λ e. c.if-word-key.false (e ∙ sym key.ensures.0))).1
 
-
 pub loop-next-preserved : goal.loop-next-preserved
 unfolding result_word result_link
 loop-next-preserved c =
@@ -51,7 +47,6 @@ loop-next-preserved c =
           c.loop-next-test.true (λ q. c.if-word-key.false (q ∙ sym e))).0,
     )
 
-
 pub returns : goal.returns
 returns c =
     let at = c.loop-next in
@@ -60,4 +55,3 @@ returns c =
     sym
     (missing c.args.scratch.now c.args.root_is_wildcard a b c.requires.sound at.next
     (at.invariant.1 a b c.merge_key-key.ensures.0) c.loop-next-test.false)
-

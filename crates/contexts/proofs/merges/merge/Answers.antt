@@ -1,6 +1,4 @@
 -- The refusals are those of the definition, in its order; then the contexts are merged.
-use borrow.Author.Rules.{rules}
-use Rattle.interning.specs.Live.{live_length}
 use Rattle.contexts.specs.MergeCall.Laws.{call_refused, call_ready, call_unknown, call_merged}
 use Rattle.contexts.proofs.merges.merge.Goals as goal
 
@@ -10,7 +8,6 @@ returns-in-Refused c =
     let args = c.args in
     call_refused args.store.now args.scratch.now admit.new.scratch args.left.0 args.right.0 args.root_is_wildcard
     admit.result admit.ensures c.in-Refused.refusal c.in-Refused.is
-
 
 pub returns-then-count_of-right : goal.returns-then-count_of-right
 returns-then-count_of-right c =
@@ -22,7 +19,6 @@ returns-then-count_of-right c =
     call_unknown args.store.now args.scratch.now admit.new.scratch args.left.0 args.right.0 args.root_is_wildcard
     admit.result admit.ensures c.in_default.is (rw count_of.ensures at if1.true) clear.new.words clear.ensures
 
-
 pub merge_known-requires : goal.merge_known-requires
 merge_known-requires c =
     let if1 = c.if-count_of-right in
@@ -33,7 +29,6 @@ merge_known-requires c =
     admit.result admit.ensures c.in_default.is in
     (ready.0, ready.1, rw count_of.ensures at if1.false)
 
-
 pub returns : goal.returns
 returns c =
     let merge_known = c.merge_known in
@@ -43,4 +38,3 @@ returns c =
     let args = c.args in
     call_merged args.store.now args.scratch.now admit.new.scratch args.left.0 args.right.0 args.root_is_wildcard
     admit.result admit.ensures c.in_default.is (rw count_of.ensures at if1.false) _ merge_known.ensures
-

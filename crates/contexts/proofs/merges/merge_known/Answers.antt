@@ -1,7 +1,6 @@
 -- The cycle begins with an empty cache and stack; a refused merge cuts the store back to what it was.
-use borrow.Author.Rules.{rules}
 use native.Mathlib.Omega.{arith}
-use mathlib.Core.Path.{◌≡◌, ap, ◌∙◌}
+use mathlib.Core.Path.{ap, ◌∙◌}
 use lib.ListN.{length}
 use Rattle.layout.specs.Decode.{store_of}
 use Rattle.encoding.specs.Written.{words_length}
@@ -14,12 +13,10 @@ count_of-count-requires c =
     let pre = c.requires in
     live_length pre.0
 
-
 pub used_of-used-requires : goal.used_of-used-requires
 used_of-used-requires c =
     let pre = c.requires in
     live_length pre.0
-
 
 pub merge-outcome-requires : goal.merge-outcome-requires
 merge-outcome-requires c =
@@ -28,7 +25,6 @@ merge-outcome-requires c =
     let args = c.args in
     begin args.root_is_wildcard args.store.now args.scratch.now args.left.0 args.right.0 pre.0 pre.1 pre.2
     clear-cache.new.scratch clear-cache.ensures
-
 
 pub cut_back-requires : goal.cut_back-requires
 cut_back-requires c =
@@ -42,7 +38,6 @@ cut_back-requires c =
       omega (arith, used-of.ensures, (live_sound pre.0).counted.2),
     )
 
-
 pub returns-in-Number : goal.returns-in-Number
 returns-in-Number c =
     let clear = c.clear in
@@ -55,7 +50,6 @@ returns-in-Number c =
     merge_made args.root_is_wildcard args.store.now args.scratch.now args.left.0 args.right.0 pre.0 pre.1 pre.2
     clear-cache.new.scratch clear-cache.ensures c.in-Number.context.0 merge.new.store merge.new.scratch
     is_merged.0 merges-counted.result c.in-Number.made merges-counted.ensures is_merged.1 clear.new.words clear.ensures
-
 
 pub returns-in-Refused : goal.returns-in-Refused
 returns-in-Refused c =
@@ -72,4 +66,3 @@ returns-in-Refused c =
     clear-cache.new.scratch clear-cache.ensures c.in-Refused.refusal merge.new.store merge.new.scratch stuck.0 stuck.1
     count_of.result used-of.result count_of.ensures used-of.ensures cut_back.new.store clear2.new.words
     cut_back.ensures clear2.ensures
-

@@ -1,10 +1,9 @@
 -- By kind: `$` over 0, a singleton's own words, or a place of the pool.
-use borrow.Author.Rules.{rules}
 use native.Mathlib.Omega.{arith}
-use mathlib.Core.Path.{◌≡◌, sym, ap, ◌∙◌}
+use mathlib.Core.Path.{sym, ap, ◌∙◌}
 use Prim.Native.Nat.{ℕ, ◌+◌}
-use Rattle.layout.specs.Layout.{kind, parent, state}
-use Rattle.entries.specs.Reading.{few, is_many, entry_zero, entry_one, entry_many, many_place}
+use Rattle.layout.specs.Layout.{parent, state}
+use Rattle.entries.specs.Reading.{is_many, entry_zero, entry_one, entry_many, many_place}
 use Rattle.entries.proofs.reads.entry.Goals as goal
 
 pub returns-then-kind-eq0 : goal.returns-then-kind-eq0
@@ -14,7 +13,6 @@ returns-then-kind-eq0 c =
     let pre = c.requires in
     let args = c.args in
     entry_zero pre.0 args.index pre.1 (sym kind-of.ensures ∙ if1.true)
-
 
 pub returns-then-kind-eq1 : goal.returns-then-kind-eq1
 returns-then-kind-eq1 c =
@@ -27,7 +25,6 @@ returns-then-kind-eq1 c =
     let e = entry_one pre.0 args.index pre.1 (sym kind-of.ensures ∙ if2.true) in
     (first_of.ensures ∙ e.0, second-of.ensures ∙ e.1)
 
-
 pub overflow_add-place : goal.overflow_add-place
 overflow_add-place c =
     let if2 = c.if-kind-eq1 in
@@ -38,7 +35,6 @@ overflow_add-place c =
     let args = c.args in
     let many = is_many pre.0 (λ e. if1.false (kind-of.ensures ∙ e)) (λ e. if2.false (kind-of.ensures ∙ e)) in
     omega (arith, first_of.ensures, many_place pre.0 args.index pre.1 many)
-
 
 pub pool_parent-requires : goal.pool_parent-requires
 pool_parent-requires c =
@@ -51,7 +47,6 @@ pool_parent-requires c =
     let many = is_many pre.0 (λ e. if1.false (kind-of.ensures ∙ e)) (λ e. if2.false (kind-of.ensures ∙ e)) in
     (pre.0.sized, omega (arith, first_of.ensures, many_place pre.0 args.index pre.1 many))
 
-
 pub pool_state-requires : goal.pool_state-requires
 pool_state-requires c =
     let if2 = c.if-kind-eq1 in
@@ -62,7 +57,6 @@ pool_state-requires c =
     let args = c.args in
     let many = is_many pre.0 (λ e. if1.false (kind-of.ensures ∙ e)) (λ e. if2.false (kind-of.ensures ∙ e)) in
     (pre.0.sized, omega (arith, first_of.ensures, many_place pre.0 args.index pre.1 many))
-
 
 pub returns : goal.returns
 returns c =
@@ -80,4 +74,3 @@ returns c =
       pool_parent.ensures ∙ ap (λ (x : ℕ). parent words (x + args.index)) first_of.ensures ∙ e.0,
       pool_state.ensures ∙ ap (λ (x : ℕ). state words (x + args.index)) first_of.ensures ∙ e.1,
     )
-

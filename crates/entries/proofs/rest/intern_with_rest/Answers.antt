@@ -1,13 +1,6 @@
 -- A turn pushes one entry more, by `tail_turn`; then all that was pushed is interned.
 use native.Mathlib.Omega.{arith}
-use mathlib.Core.Path.{◌≡◌, sym, ◌∙◌}
-use Prim.Native.Nat.{◌-◌, ◌≤◌}
-use lib.ListN.{length}
-use Rattle.arena.specs.Store.{node_at}
-use Rattle.arena.specs.Kinds.{size}
-use Rattle.layout.specs.Decode.{store_of}
-use Rattle.interning.specs.Live.{live_length}
-use Rattle.entries.specs.Rest.{Tail, live_known, tail_start, tail_next, tail_turn, tail_done, finished, extends_lengths}
+use Rattle.entries.specs.Rest.{live_known, tail_turn, finished}
 use Rattle.entries.proofs.rest.intern_with_rest.Goals as goal
 
 pub entry_count-count-requires : goal.entry_count-count-requires
@@ -16,14 +9,12 @@ entry_count-count-requires c =
     let args = c.args in
     live_known pre.live args.context.0 pre.known
 
-
 pub entry-taken-requires : goal.entry-taken-requires
 entry-taken-requires c =
     let loop = c.loop-next in
     let pre = c.requires.0 in
     let args = c.args in
     (live_known pre.live args.context.0 pre.known, omega (arith, loop.invariant.1))
-
 
 pub loop-next-preserved : goal.loop-next-preserved
 loop-next-preserved c =
@@ -33,10 +24,8 @@ loop-next-preserved c =
     let more = tail_turn loop.invariant.2 (omega (arith, loop.invariant.1)) entry.ensures.0 entry.ensures.1 _ put-entry.ensures in
     (more.now.live.index.sized, loop.invariant.1, more)
 
-
 pub returns : goal.returns
 returns c =
     let intern-entries = c.intern_entries in
     let loop = c.loop-next in
     finished loop.invariant.2 (omega (arith, loop.invariant.1)) intern-entries.result intern-entries.new.store intern-entries.new.scratch intern-entries.ensures
-

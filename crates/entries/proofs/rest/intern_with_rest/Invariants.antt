@@ -1,20 +1,16 @@
 -- A turn pushes one entry more, by `tail_turn`; then all that was pushed is interned.
-use native.Mathlib.Omega.{arith}
-use mathlib.Core.Path.{◌≡◌, sym, ◌∙◌}
-use Prim.Native.Nat.{◌-◌, ◌≤◌}
+use mathlib.Core.Path.{◌≡◌}
+use Prim.Native.Nat.{◌-◌}
 use lib.ListN.{length}
 use Rattle.arena.specs.Store.{node_at}
 use Rattle.arena.specs.Kinds.{size}
 use Rattle.layout.specs.Decode.{store_of}
-use Rattle.interning.specs.Live.{live_length}
-use Rattle.entries.specs.Rest.{Tail, live_known, tail_start, tail_next, tail_turn, tail_done, finished, extends_lengths}
+use Rattle.entries.specs.Rest.{Tail}
 use Rattle.entries.proofs.rest.intern_with_rest.Given as goal
 
 abbrev pub invariant-loop-next : goal.invariant-loop-next
 invariant-loop-next l =
     (length l.scratch ≡ 16384) × (l.count ≡ size (node_at (store_of l.store) l.context.0)) × Tail l.store l.initial.scratch l.context.0 l.index l.top l.n l.scratch l.next l.pushed
 
-
 abbrev pub decreases-loop-next : goal.decreases-loop-next
 decreases-loop-next l = l.count - l.next
-

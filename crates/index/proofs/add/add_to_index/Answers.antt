@@ -1,7 +1,4 @@
 -- The stores are those of `put_index`, by computation.
-use borrow.Author.Rules.{rules}
-use native.Mathlib.Omega.{arith}
-use lib.ListN.{length-set}
 use Rattle.layout.specs.Scratch.{head}
 use Rattle.index.specs.Writes.{put_index}
 use Rattle.index.proofs.add.add_to_index.Goals as goal
@@ -9,4 +6,3 @@ use Rattle.index.proofs.add.add_to_index.Goals as goal
 pub returns : goal.returns
 unfolding put_index head
 returns c = rw c.bucket-chain.ensures.0
-

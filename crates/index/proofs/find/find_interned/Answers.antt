@@ -1,13 +1,6 @@
 -- The chain is followed link by link; what is known at a link is `Going`, and each step is a lemma of `Search`.
-use borrow.Author.Rules.{rules}
-use native.Mathlib.Omega.{arith}
 use mathlib.Core.Path.{sym, ◌∙◌}
-use Prim.Native.Nat.{◌≤◌}
-use Rattle.layout.specs.Decode.{store_in}
-use Rattle.index.specs.Hash.{bucket_of}
-use Rattle.index.specs.Records.{stack_node}
-use Rattle.index.specs.Chain.{At}
-use Rattle.index.specs.Search.{begin, here, hit, onward, missing}
+use Rattle.index.specs.Search.{begin, hit, onward}
 use Rattle.index.proofs.find.find_interned.Goals as goal
 
 pub loop-next-init : goal.loop-next-init
@@ -16,7 +9,6 @@ loop-next-init c =
     let pre = c.requires in
     (begin args.store.now args.scratch.now args.count args.at args.n args.hash pre c.bucket-chain.result
     c.bucket-chain.ensures.0 c.bucket-chain.ensures.1)
-
 
 pub returns-then-same_record : goal.returns-then-same_record
 returns-then-same_record c =
@@ -27,7 +19,6 @@ returns-then-same_record c =
     (hit args.store.now args.scratch.now args.count args.at args.n args.hash pre loop.next
     c.loop-next-test.true loop.invariant (sym c.if-same_record.true ∙ c.same_record.ensures))
 
-
 pub loop-next-smaller : goal.loop-next-smaller
 loop-next-smaller c =
     let args = c.args in
@@ -37,7 +28,6 @@ loop-next-smaller c =
     (onward args.store.now args.scratch.now args.count args.at args.n args.hash pre loop.next
     c.loop-next-test.true loop.invariant (sym c.if-same_record.false ∙ c.same_record.ensures)).1
 
-
 pub loop-next-preserved : goal.loop-next-preserved
 loop-next-preserved c =
     let args = c.args in
@@ -46,4 +36,3 @@ loop-next-preserved c =
     rw c.link_of-next.ensures
     (onward args.store.now args.scratch.now args.count args.at args.n args.hash pre loop.next
     c.loop-next-test.true loop.invariant (sym c.if-same_record.false ∙ c.same_record.ensures)).0
-

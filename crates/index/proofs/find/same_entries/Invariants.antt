@@ -1,18 +1,12 @@
 -- Up to i the words agree; the first that do not tell the lists apart.
-use borrow.Author.Rules.{rules}
-use native.Mathlib.Omega.{arith}
-use mathlib.Core.Path.{◌≡◌, sym, ◌∙◌}
+use mathlib.Core.Path.{◌≡◌}
 use Prim.Native.Nat.{ℕ, ◌+◌, ◌-◌, ◌<◌, ◌≤◌}
 use Rattle.layout.specs.Layout.{parent, state}
 use Rattle.layout.specs.Scratch.{stack_parent, stack_state}
-use Rattle.index.specs.Same.{entries_same, parent_other, state_other}
-use borrow.Author.Count.{below_more}
 use Rattle.index.proofs.find.same_entries.Given as goal
 
 abbrev pub invariant-loop-i : goal.invariant-loop-i
 invariant-loop-i l = (l.i ≤ l.n) × ((j : ℕ) → j < l.i → (state l.store (l.from + j) ≡ stack_state l.scratch (l.at + j)) × (parent l.store (l.from + j) ≡ stack_parent l.scratch (l.at + j)))
 
-
 abbrev pub decreases-loop-i : goal.decreases-loop-i
 decreases-loop-i l = l.n - l.i
-

@@ -1,5 +1,4 @@
 -- The parents are compared, and then the states.
-use borrow.Author.Rules.{rules}
 use mathlib.Core.Path.{sym, ◌∙◌}
 use Rattle.layout.specs.Layout.{first, second}
 use Rattle.index.specs.Same.{single_parent_other, single_state}
@@ -14,7 +13,6 @@ returns-then-first_of-stack_parent c =
     (second args.store.now args.candidate)
     (λ e. c.if-first_of-stack_parent.true (c.first_of.ensures ∙ e ∙ sym c.stack_parent.ensures)))
 
-
 pub returns : goal.returns
 returns c =
     let args = c.args in
@@ -23,4 +21,3 @@ returns c =
     (rw (c.second_of.ensures, c.stack_state.ensures)) ∙ single_state args.scratch.now args.at pre.stacked.1
     (first args.store.now args.candidate) (second args.store.now args.candidate)
     (sym first_of.ensures ∙ c.if-first_of-stack_parent.false ∙ c.stack_parent.ensures)
-

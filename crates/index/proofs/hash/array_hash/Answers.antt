@@ -1,5 +1,4 @@
 -- The words of an array, in document 01's order, by `array_hash`.
-use borrow.Author.Rules.{rules}
 use mathlib.Core.Path.{sym, ◌∙◌}
 use Rattle.layout.specs.Scratch.{stack_parent, stack_state}
 use Rattle.layout.specs.Listing.Laws.{listing_size}
@@ -17,4 +16,3 @@ returns c =
     (array_hash (hash_in args.scratch.now) (stack_node args.scratch.now args.at args.n) args.n
     (listing_size (stack_state args.scratch.now) (stack_parent args.scratch.now) args.at args.n 512 pre.stacked.entries)
     pre.le_n)
-

@@ -2,12 +2,9 @@
 use mathlib.Core.Path.{refl}
 use native.Mathlib.Omega.{arith}
 use Rattle.index.specs.Hash.{bucket_of}
-use Rattle.index.proofs.hash.bucket.Reads as reads
-use Rattle.index.proofs.hash.bucket.Lts as lts
 use Rattle.index.proofs.hash.bucket.Goals as goal
 
 -- src/hash.rt:16:1
 pub returns : goal.returns
 unfolding bucket_of
 returns c = (refl, omega arith)
-

@@ -1,5 +1,4 @@
 -- An array, `$` alone or a singleton: each has its own words.
-use borrow.Author.Rules.{rules}
 use native.Mathlib.Omega.{arith}
 use mathlib.Core.Path.{◌≡◌, sym, ◌∙◌}
 use Rattle.index.specs.Records.{hash_in}
@@ -12,7 +11,6 @@ returns-then-state c =
     let one : args.n ≡ 1 = omega arith in rw one (c.empty_hash.ensures ∙ sym
     (dollar_hash (hash_in args.scratch.now) args.scratch.now args.at (sym c.stack_state-state.ensures ∙ c.if-state.true)))
 
-
 pub returns : goal.returns
 returns c =
     let args = c.args in
@@ -20,4 +18,3 @@ returns c =
     let one : args.n ≡ 1 = omega arith in rw one (c.singleton_hash.ensures ∙
     (rw (c.context_hash.ensures, c.stack_parent-parent.ensures, stack-state.ensures)) ∙ sym
     (single_hash (hash_in args.scratch.now) args.scratch.now args.at (λ e. c.if-state.false (stack-state.ensures ∙ e))))
-

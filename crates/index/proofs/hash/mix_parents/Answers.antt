@@ -1,12 +1,8 @@
 -- The hash goes on from what is done to what is left: a turn takes one entry more, by `parents_turn`.
-use borrow.Author.Rules.{rules}
 use native.Mathlib.Omega.{arith}
-use mathlib.Core.Path.{◌≡◌, sym, ap, ◌∙◌}
-use Prim.Native.Nat.{◌+◌, ◌-◌, ◌≤◌}
-use Rattle.words.specs.Hash.{hash_from}
-use Rattle.index.specs.Hash.{parent_words}
-use Rattle.index.specs.Records.{hash_in, stack_node}
-use Rattle.index.specs.Walk.{parents_turn, parents_end, walk_start}
+use mathlib.Core.Path.{sym, ◌∙◌}
+use Rattle.index.specs.Records.{hash_in}
+use Rattle.index.specs.Walk.{parents_turn, parents_end}
 use Rattle.index.proofs.hash.mix_parents.Goals as goal
 
 pub loop-i-preserved : goal.loop-i-preserved
@@ -19,11 +15,9 @@ loop-i-preserved c =
           (omega arith) loop.hash ∙ rw (c.mix-hash.ensures, c.context_hash.ensures, c.stack_parent-parent.ensures),
     )
 
-
 pub returns : goal.returns
 returns c =
     let args = c.args in
     sym
     (c.loop-i.invariant.1 ∙ parents_end (hash_in args.scratch.now) args.scratch.now args.at args.n c.loop-i.i
     c.loop-i.hash (omega arith))
-

@@ -1,12 +1,7 @@
 -- The hash goes on from what is done to what is left: a turn takes one entry more, by `states_turn`.
-use borrow.Author.Rules.{rules}
 use native.Mathlib.Omega.{arith}
-use mathlib.Core.Path.{◌≡◌, sym, ap, ◌∙◌}
-use Prim.Native.Nat.{◌+◌, ◌-◌, ◌≤◌}
-use Rattle.words.specs.Hash.{hash_from}
-use Rattle.index.specs.Hash.{state_words}
-use Rattle.index.specs.Records.{stack_node}
-use Rattle.index.specs.Walk.{states_turn, states_end, walk_start}
+use mathlib.Core.Path.{sym, ◌∙◌}
+use Rattle.index.specs.Walk.{states_turn, states_end}
 use Rattle.index.proofs.hash.mix_states.Goals as goal
 
 pub loop-i-preserved : goal.loop-i-preserved
@@ -19,9 +14,7 @@ loop-i-preserved c =
           rw (c.mix-hash.ensures, c.stack_state-state.ensures),
     )
 
-
 pub returns : goal.returns
 returns c =
     let args = c.args in
     sym (c.loop-i.invariant.1 ∙ states_end args.scratch.now args.at args.n c.loop-i.i c.loop-i.hash (omega arith))
-

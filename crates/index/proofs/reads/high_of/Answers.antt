@@ -1,5 +1,4 @@
 -- `high_of` reads `high`, by computation.
-use borrow.Author.Rules.{rules}
 use mathlib.Core.Path.{refl}
 use Rattle.layout.specs.Scratch.{high}
 use Rattle.index.proofs.reads.high_of.Goals as goal
@@ -7,4 +6,3 @@ use Rattle.index.proofs.reads.high_of.Goals as goal
 pub returns : goal.returns
 unfolding high
 returns c = refl
-

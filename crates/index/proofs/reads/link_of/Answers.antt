@@ -1,5 +1,4 @@
 -- `link_of` reads `link`, by computation.
-use borrow.Author.Rules.{rules}
 use mathlib.Core.Path.{refl}
 use Rattle.layout.specs.Scratch.{link}
 use Rattle.index.proofs.reads.link_of.Goals as goal
@@ -7,4 +6,3 @@ use Rattle.index.proofs.reads.link_of.Goals as goal
 pub returns : goal.returns
 unfolding link
 returns c = refl
-

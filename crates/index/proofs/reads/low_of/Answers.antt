@@ -1,5 +1,4 @@
 -- `low_of` reads `low`, by computation.
-use borrow.Author.Rules.{rules}
 use mathlib.Core.Path.{refl}
 use Rattle.layout.specs.Scratch.{low}
 use Rattle.index.proofs.reads.low_of.Goals as goal
@@ -7,4 +6,3 @@ use Rattle.index.proofs.reads.low_of.Goals as goal
 pub returns : goal.returns
 unfolding low
 returns c = refl
-

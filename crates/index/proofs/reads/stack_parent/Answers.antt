@@ -1,5 +1,4 @@
 -- `stack_parent` reads `stack_parent`, by computation.
-use borrow.Author.Rules.{rules}
 use mathlib.Core.Path.{refl}
 use Rattle.layout.specs.Scratch.{stack_parent}
 use Rattle.index.proofs.reads.stack_parent.Goals as goal
@@ -7,4 +6,3 @@ use Rattle.index.proofs.reads.stack_parent.Goals as goal
 pub returns : goal.returns
 unfolding stack_parent
 returns c = refl
-

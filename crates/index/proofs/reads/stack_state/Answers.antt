@@ -1,5 +1,4 @@
 -- `stack_state` reads `stack_state`, by computation.
-use borrow.Author.Rules.{rules}
 use mathlib.Core.Path.{refl}
 use Rattle.layout.specs.Scratch.{stack_state}
 use Rattle.index.proofs.reads.stack_state.Goals as goal
@@ -7,4 +6,3 @@ use Rattle.index.proofs.reads.stack_state.Goals as goal
 pub returns : goal.returns
 unfolding stack_state
 returns c = refl
-

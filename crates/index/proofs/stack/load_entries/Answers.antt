@@ -1,11 +1,6 @@
 -- Up to i the entries are copied; a turn copies one more, by `load_more`.
-use borrow.Author.Rules.{rules}
 use native.Mathlib.Omega.{arith}
-use mathlib.Core.Path.{◌≡◌}
-use Prim.Native.Nat.{◌-◌, ◌≤◌}
-use lib.ListN.{length}
-use Rattle.index.specs.Writes.{Loaded}
-use Rattle.index.specs.Load.{load_none, load_more}
+use Rattle.index.specs.Load.{load_more}
 use Rattle.index.proofs.stack.load_entries.Goals as goal
 
 pub loop-i-preserved : goal.loop-i-preserved
@@ -17,4 +12,3 @@ loop-i-preserved c =
     let more = load_more args.store.now args.scratch.now loop.scratch args.from loop.i args.at pool_parent.result pool_state.result (omega arith)
     pool_parent.ensures pool_state.ensures loop.invariant.2 in
     rw c.put_entry.ensures (omega arith, more.sized, more)
-

@@ -1,6 +1,4 @@
 -- One entry is put on the stack and interned; the scratch is cleared.
-use borrow.Author.Rules.{rules}
-use native.Mathlib.Omega.{arith}
 use mathlib.Core.Path.{◌∙◌}
 use Rattle.store.specs.Admit.{cleared}
 use Rattle.interning.specs.Live.{live_count}
@@ -20,7 +18,6 @@ intern_entries-interned-requires c =
       known,
     )
 
-
 pub returns : goal.returns
 unfolding placed_single
 returns c =
@@ -37,4 +34,3 @@ returns c =
     (single_place args.store.now args.scratch.now pre.0 args.parent.0 args.state.0 pre.1 pre.2
     put-entry.new.scratch put-entry.ensures)
     intern-entries.ensures
-

@@ -1,5 +1,4 @@
 -- The refusals are those of the definition, in its order; then the state is placed.
-use borrow.Author.Rules.{rules}
 use native.Mathlib.Omega.{arith}
 use mathlib.Core.Path.{◌≡◌, sym, ◌∙◌}
 use Rattle.words.specs.declared.names.Compacted.TheVariants.{State}
@@ -15,7 +14,6 @@ returns-in-Refused c =
     let e : at-admit.result ≡ Refused c.in-Refused.refusal = cc in singleton_refused args.store.now args.scratch.now at-admit.new.scratch args.parent.0
     args.state.0 at-admit.result at-admit.ensures c.in-Refused.refusal e
 
-
 pub place_single-requires : goal.place_single-requires
 place_single-requires c =
     let args = c.args in
@@ -27,7 +25,6 @@ place_single-requires c =
     let o = placed args.store.now args.state.0 (placed_single args.store.now args.parent.0 args.state.0) c.in-State.held m in
     (ready.0, ready.1, omega (arith, o.0, o.1))
 
-
 pub returns-in-Mark : goal.returns-in-Mark
 returns-in-Mark c =
     let args = c.args in
@@ -36,7 +33,6 @@ returns-in-Mark c =
     singleton_mark args.store.now args.scratch.now at-admit.new.scratch args.parent.0 args.state.0 at-admit.result
     at-admit.ensures c.in_default.is _ c.clear.ensures (sym compact.ensures ∙ c.in-Mark.is)
 
-
 pub returns-in-OutOfRange : goal.returns-in-OutOfRange
 returns-in-OutOfRange c =
     let args = c.args in
@@ -44,7 +40,6 @@ returns-in-OutOfRange c =
     let compact = c.compact-compact in
     singleton_out args.store.now args.scratch.now at-admit.new.scratch args.parent.0 args.state.0 at-admit.result
     at-admit.ensures c.in_default.is _ c.clear-in-OutOfRange.ensures (sym compact.ensures ∙ c.in-OutOfRange.is)
-
 
 pub returns-in-State : goal.returns-in-State
 returns-in-State c =
@@ -56,4 +51,3 @@ returns-in-State c =
     let m = sym compact.ensures ∙ e in
     singleton_placed args.store.now args.scratch.now at-admit.new.scratch args.parent.0 args.state.0 at-admit.result
     at-admit.ensures c.in_default.is c.in-State.held m _ place_single.ensures
-

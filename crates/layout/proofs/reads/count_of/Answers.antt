@@ -1,5 +1,4 @@
 -- `count_of` reads `count`, by computation.
-use borrow.Author.Rules.{rules}
 use mathlib.Core.Path.{refl}
 use Rattle.layout.specs.Layout.{count}
 use Rattle.layout.proofs.reads.count_of.Goals as goal
@@ -7,4 +6,3 @@ use Rattle.layout.proofs.reads.count_of.Goals as goal
 pub returns : goal.returns
 unfolding count
 returns c = refl
-

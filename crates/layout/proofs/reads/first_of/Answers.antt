@@ -1,5 +1,4 @@
 -- `first_of` reads `first`, by computation.
-use borrow.Author.Rules.{rules}
 use mathlib.Core.Path.{refl}
 use Rattle.layout.specs.Layout.{first}
 use Rattle.layout.proofs.reads.first_of.Goals as goal
@@ -7,4 +6,3 @@ use Rattle.layout.proofs.reads.first_of.Goals as goal
 pub returns : goal.returns
 unfolding first
 returns c = refl
-

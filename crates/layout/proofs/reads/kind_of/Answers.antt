@@ -1,5 +1,4 @@
 -- `kind_of` reads `kind`, by computation.
-use borrow.Author.Rules.{rules}
 use mathlib.Core.Path.{refl}
 use Rattle.layout.specs.Layout.{kind}
 use Rattle.layout.proofs.reads.kind_of.Goals as goal
@@ -7,4 +6,3 @@ use Rattle.layout.proofs.reads.kind_of.Goals as goal
 pub returns : goal.returns
 unfolding kind
 returns c = refl
-

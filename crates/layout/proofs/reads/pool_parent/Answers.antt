@@ -1,5 +1,4 @@
 -- `pool_parent` reads `parent`, by computation.
-use borrow.Author.Rules.{rules}
 use mathlib.Core.Path.{refl}
 use Rattle.layout.specs.Layout.{parent}
 use Rattle.layout.proofs.reads.pool_parent.Goals as goal
@@ -7,4 +6,3 @@ use Rattle.layout.proofs.reads.pool_parent.Goals as goal
 pub returns : goal.returns
 unfolding parent
 returns c = refl
-

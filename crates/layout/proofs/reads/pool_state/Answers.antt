@@ -1,5 +1,4 @@
 -- `pool_state` reads `state`, by computation.
-use borrow.Author.Rules.{rules}
 use mathlib.Core.Path.{refl}
 use Rattle.layout.specs.Layout.{state}
 use Rattle.layout.proofs.reads.pool_state.Goals as goal
@@ -7,4 +6,3 @@ use Rattle.layout.proofs.reads.pool_state.Goals as goal
 pub returns : goal.returns
 unfolding state
 returns c = refl
-

@@ -1,5 +1,4 @@
 -- `second_of` reads `second`, by computation.
-use borrow.Author.Rules.{rules}
 use mathlib.Core.Path.{refl}
 use Rattle.layout.specs.Layout.{second}
 use Rattle.layout.proofs.reads.second_of.Goals as goal
@@ -7,4 +6,3 @@ use Rattle.layout.proofs.reads.second_of.Goals as goal
 pub returns : goal.returns
 unfolding second
 returns c = refl
-

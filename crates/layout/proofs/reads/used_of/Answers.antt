@@ -1,5 +1,4 @@
 -- `used_of` reads `used`, by computation.
-use borrow.Author.Rules.{rules}
 use mathlib.Core.Path.{refl}
 use Rattle.layout.specs.Layout.{used}
 use Rattle.layout.proofs.reads.used_of.Goals as goal
@@ -7,4 +6,3 @@ use Rattle.layout.proofs.reads.used_of.Goals as goal
 pub returns : goal.returns
 unfolding used
 returns c = refl
-

@@ -1,12 +1,8 @@
 -- The two stores are those of `put_counts`, by computation.
-use borrow.Author.Rules.{rules}
-use native.Mathlib.Omega.{arith}
 use mathlib.Core.Path.{refl}
-use lib.ListN.{length-set}
 use Rattle.layout.specs.Encode.{put_counts}
 use Rattle.layout.proofs.writes.put_counts.Goals as goal
 
 pub returns : goal.returns
 unfolding put_counts
 returns c = refl
-

@@ -1,12 +1,8 @@
 -- The three stores are those of `put_record`, by computation.
-use borrow.Author.Rules.{rules}
-use native.Mathlib.Omega.{arith}
 use mathlib.Core.Path.{refl}
-use lib.ListN.{length-set}
 use Rattle.layout.specs.Encode.{put_record}
 use Rattle.layout.proofs.writes.put_record.Goals as goal
 
 pub returns : goal.returns
 unfolding put_record
 returns c = refl
-

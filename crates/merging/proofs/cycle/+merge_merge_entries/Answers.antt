@@ -1,27 +1,11 @@
 -- The needs of the two members: those of `merge` are lemmas of specs/Beginning, those of `merge_entries` of specs/Turns; the right side's are
 -- the left's with the sides exchanged.
 use native.Mathlib.Omega.{arith}
-use mathlib.Core.Path.{◌≡◌, sym, ap, ◌∙◌}
-use mathlib.Core.Bool.{true, false}
-use Prim.Native.Nat.{ℕ, ◌<◌, ◌≤◌, ◌+◌}
-use lib.ListN.{length}
-use borrow.Author.Rules.{rules}
-use borrow.Author.Tests.{not-true, not-false}
-use Rattle.interning.specs.Live.{live_length}
-use Rattle.interning.specs.Interned.{More, answered}
-use Rattle.interning.specs.declared.single.Numbered.TheVariants.{Number, Refused}
-use Rattle.work.specs.Counted.{counted, refused}
-use Rattle.cache.specs.Cache.{Counts}
-use Rattle.cache.specs.declared.lookup.Recall.TheVariants.{As, Unknown}
-use Rattle.merging.specs.Standing.{Reached, Swallows, walked, state_of, ended_lengths, Stuck, Ended}
+use Rattle.merging.specs.Standing.{state_of}
 use Rattle.merging.proofs.Beginning.{asked, equal_sides, hit, too_much_lem, counted_apart, swallowed, merged_few, remembered, refused_inside}
-use Rattle.arena.specs.Store.{node_at}
-use Rattle.arena.specs.Kinds.{size}
-use Rattle.layout.specs.Decode.{store_of}
-use Rattle.words.specs.Refusals.{number}
 use Rattle.entries.specs.Rest.{live_known}
 use Rattle.merging.proofs.Walking.{exchanged}
-use Rattle.merging.proofs.Turns.{Heads, heads_exchanged, sides_exchanged, go_start, left_known, left_is, right_there, rest_left, left_ended, few_made, fitting, slot, take_lower, parents_fall, inner, take_equal, inner_refused, walked_even}
+use Rattle.merging.proofs.Turns.{Heads, heads_exchanged, sides_exchanged, go_start, left_known, left_is, right_there, rest_left, left_ended, slot, take_lower, parents_fall, inner, take_equal, inner_refused, walked_even}
 use Rattle.merging.proofs.cycle.+merge_merge_entries.Goals as goal
 
 pub merge-returns-then-left-right : goal.merge-returns-then-left-right

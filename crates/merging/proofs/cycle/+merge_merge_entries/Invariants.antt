@@ -1,5 +1,5 @@
 -- The cycle's measure, twice the sum of the two context numbers and a step; the loop's invariant and measure.
-use Rattle.std.proofs.Common.{◌≡◌, ℕ, ◌+◌, ◌-◌, ◌*◌, ◌≤◌}
+use Rattle.std.proofs.Common.{◌≡◌, ◌+◌, ◌-◌, ◌*◌, ◌≤◌}
 use Rattle.arena.specs.Store.{node_at}
 use Rattle.arena.specs.Kinds.{size}
 use Rattle.layout.specs.Decode.{store_of}

@@ -1,5 +1,4 @@
 -- A refusal is that of the checks; else context 0 alone is the set of the empty stack.
-use borrow.Author.Rules.{rules}
 use mathlib.Core.Path.{sym}
 use Rattle.queries.proofs.EntryWords.{empty_is, empty_not}
 use Rattle.queries.proofs.empties.is_empty.Goals as goal

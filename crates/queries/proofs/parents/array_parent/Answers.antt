@@ -1,8 +1,7 @@
 -- An index below the length is a place in the pool; any other is past the end.
-use borrow.Author.Rules.{rules}
 use native.Mathlib.Omega.{arith}
 use mathlib.Core.Path.{sym}
-use Rattle.queries.proofs.EntryWords.{few, bounds_read, parent_read, parent_many_past}
+use Rattle.queries.proofs.EntryWords.{bounds_read, parent_read, parent_many_past}
 use Rattle.queries.proofs.parents.array_parent.Goals as goal
 
 pub pool_parent-requires : goal.pool_parent-requires
@@ -18,7 +17,6 @@ pool_parent-requires c =
       ),
     )
 
-
 pub returns-then-index-second_of : goal.returns-then-index-second_of
 returns-then-index-second_of c =
     let pre = c.requires in
@@ -27,9 +25,7 @@ returns-then-index-second_of c =
     parent_read pre.0 pre.1 c.first_of-from.result second-of.result c.first_of-from.ensures second-of.ensures
     args.index c.if-index-second_of.true c.pool_parent.result c.pool_parent.ensures
 
-
 pub returns : goal.returns
 returns c =
     let pre = c.requires in
     sym (parent_many_past pre.0 c.args.index pre.1 (omega (arith, c.second_of.ensures)))
-

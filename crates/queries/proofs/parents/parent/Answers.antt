@@ -1,5 +1,4 @@
 -- A refusal is that of the checks; else the entry's parent is read.
-use borrow.Author.Rules.{rules}
 use Rattle.queries.proofs.parents.parent.Goals as goal
 
 pub returns-in-Refused : goal.returns-in-Refused

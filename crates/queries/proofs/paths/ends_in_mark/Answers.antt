@@ -1,7 +1,6 @@
 -- By kind: an array's last entry, and else whether the record is that of context 0.
-use borrow.Author.Rules.{rules}
 use mathlib.Core.Path.{sym, ◌∙◌}
-use Rattle.queries.proofs.EntryWords.{few, bounds_read, last_read, path_other}
+use Rattle.queries.proofs.EntryWords.{bounds_read, last_read, path_other}
 use native.Mathlib.Omega.{arith}
 use Rattle.queries.proofs.paths.ends_in_mark.Goals as goal
 
@@ -16,7 +15,6 @@ pool_state-requires c =
       ),
     )
 
-
 pub returns-then-kind-eq2 : goal.returns-then-kind-eq2
 returns-then-kind-eq2 c =
     let pre = c.requires in
@@ -25,7 +23,5 @@ returns-then-kind-eq2 c =
     last_read pre (sym kind-of.ensures ∙ c.if-kind-eq2.true) first_of.result c.second_of-n.result
     first_of.ensures c.second_of-n.ensures c.pool_state.result c.pool_state.ensures
 
-
 pub returns : goal.returns
 returns c = rw c.kind_of-kind.ensures (sym (path_other c.requires (λ e. c.if-kind-eq2.false (c.kind_of-kind.ensures ∙ e))))
-

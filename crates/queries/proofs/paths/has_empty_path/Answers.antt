@@ -1,5 +1,4 @@
 -- A refusal is that of the checks; else the last entry tells.
-use borrow.Author.Rules.{rules}
 use mathlib.Core.Path.{sym}
 use Rattle.queries.proofs.paths.has_empty_path.Goals as goal
 

@@ -1,5 +1,4 @@
 -- A refusal is that of the checks; else the entries are counted.
-use borrow.Author.Rules.{rules}
 use Rattle.queries.proofs.sizes.len.Goals as goal
 
 pub returns-in-Refused : goal.returns-in-Refused

@@ -1,8 +1,7 @@
 -- An index below the length is a place in the pool; any other is past the end.
-use borrow.Author.Rules.{rules}
 use native.Mathlib.Omega.{arith}
 use mathlib.Core.Path.{sym}
-use Rattle.queries.proofs.EntryWords.{few, bounds_read, state_read, state_many_past}
+use Rattle.queries.proofs.EntryWords.{bounds_read, state_read, state_many_past}
 use Rattle.queries.proofs.states.array_state.Goals as goal
 
 pub pool_state-held-requires : goal.pool_state-held-requires
@@ -18,7 +17,6 @@ pool_state-held-requires c =
       ),
     )
 
-
 pub returns-then-index-second_of : goal.returns-then-index-second_of
 returns-then-index-second_of c =
     let pre = c.requires in
@@ -29,9 +27,7 @@ returns-then-index-second_of c =
     c.if-index-second_of.true c.pool_state-held.result c.expand.result.0 c.pool_state-held.ensures
     c.expand.ensures
 
-
 pub returns : goal.returns
 returns c =
     let pre = c.requires in
     sym (state_many_past pre.0 c.args.index pre.1 (omega (arith, c.second_of.ensures)))
-

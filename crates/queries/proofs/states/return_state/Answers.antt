@@ -1,5 +1,4 @@
 -- A refusal is that of the checks; else the entry's state is read.
-use borrow.Author.Rules.{rules}
 use Rattle.queries.proofs.states.return_state.Goals as goal
 
 pub returns-in-Refused : goal.returns-in-Refused

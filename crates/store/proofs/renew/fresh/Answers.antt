@@ -1,5 +1,4 @@
 -- The words are cleared and the count set, as the definition has it.
-use borrow.Author.Rules.{rules}
 use Rattle.store.proofs.FreshWords.{fresh_words, fresh_refused}
 use Rattle.store.proofs.renew.fresh.Goals as goal
 

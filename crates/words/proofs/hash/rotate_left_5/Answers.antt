@@ -6,4 +6,3 @@ use Rattle.words.proofs.hash.rotate_left_5.Goals as goal
 pub returns : goal.returns
 unfolding rotated
 returns c = rotation c.args.x 59 5 c.ranges.x.fits
-

@@ -1,6 +1,5 @@
 -- `clear_range` leaves `cleared_range`. The loop's invariant: the words up to i are cleared; one store more is `cleared_range_more`.
-use Rattle.std.proofs.Common.{◌≡◌, ℕ, ◌-◌, ◌≤◌, List, length, set, sym, ap, ◌∙◌, arith, length-set, rules}
-use Rattle.words.specs.Lent.{cleared_range}
+use Rattle.std.proofs.Common.{ℕ, List, set, sym, ap, ◌∙◌, arith, length-set, rules}
 use Rattle.words.specs.Lent.Laws.{cleared_range_none, cleared_range_more}
 use Rattle.words.proofs.lent.clear_range.Goals as goal
 
@@ -8,7 +7,6 @@ pub loop-i-init : goal.loop-i-init
 loop-i-init c =
     let a = c.args in
     (omega arith, omega arith, search rules, sym (cleared_range_none a.words.now a.from (omega arith)))
-
 
 pub loop-i-preserved : goal.loop-i-preserved
 loop-i-preserved c =
@@ -19,4 +17,3 @@ loop-i-preserved c =
       simp length-set l.invariant.2,
       ap (λ (t : List ℕ). set t l.i 0) l.invariant.3 ∙ cleared_range_more a.words.now a.from l.i (omega arith) (omega arith),
     )
-

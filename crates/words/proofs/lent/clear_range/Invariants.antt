@@ -1,13 +1,10 @@
 -- `clear_range` leaves `cleared_range`. The loop's invariant: the words up to i are cleared; one store more is `cleared_range_more`.
-use Rattle.std.proofs.Common.{◌≡◌, ℕ, ◌-◌, ◌≤◌, List, length, set, sym, ap, ◌∙◌, arith, length-set, rules}
+use Rattle.std.proofs.Common.{◌≡◌, ◌-◌, ◌≤◌, length}
 use Rattle.words.specs.Lent.{cleared_range}
-use Rattle.words.specs.Lent.Laws.{cleared_range_none, cleared_range_more}
 use Rattle.words.proofs.lent.clear_range.Given as goal
 
 abbrev pub invariant-loop-i : goal.invariant-loop-i
 invariant-loop-i l = (l.from ≤ l.i) × (l.i ≤ l.to) × (length l.words ≡ length l.initial.words) × (l.words ≡ cleared_range l.initial.words l.from l.i)
 
-
 abbrev pub decreases-loop-i : goal.decreases-loop-i
 decreases-loop-i l = l.to - l.i
-

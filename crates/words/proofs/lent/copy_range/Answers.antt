@@ -1,6 +1,5 @@
 -- `copy_range` leaves `copied_range`. The loop's invariant: the first words are copied, `done` of them; one store more is `copied_range_more`.
-use Rattle.std.proofs.Common.{◌≡◌, ℕ, ◌+◌, ◌-◌, ◌≤◌, List, length, get_or, set, sym, ap, ◌∙◌, arith, length-set, rules}
-use Rattle.words.specs.Lent.{copied_range}
+use Rattle.std.proofs.Common.{ℕ, ◌+◌, List, get_or, set, sym, ap, ◌∙◌, arith, length-set, rules}
 use Rattle.words.specs.Lent.Laws.{copied_range_none, copied_range_more}
 use Rattle.words.proofs.lent.copy_range.Goals as goal
 
@@ -8,7 +7,6 @@ pub loop-done-init : goal.loop-done-init
 loop-done-init c =
     let a = c.args in
     (omega arith, search rules, sym (copied_range_none a.target.now a.at a.source.now a.from))
-
 
 pub loop-done-preserved : goal.loop-done-preserved
 loop-done-preserved c =
@@ -20,4 +18,3 @@ loop-done-preserved c =
       ap (λ (t : List ℕ). set t (a.at + l.done) word) l.invariant.2
           ∙ copied_range_more a.target.now a.at a.source.now a.from l.done (omega arith) (omega arith),
     )
-

@@ -1,14 +1,11 @@
 -- `copy_range` leaves `copied_range`. The loop's invariant: the first words are copied, `done` of them; one store more is `copied_range_more`.
-use Rattle.std.proofs.Common.{◌≡◌, ℕ, ◌+◌, ◌-◌, ◌≤◌, List, length, get_or, set, sym, ap, ◌∙◌, arith, length-set, rules}
+use Rattle.std.proofs.Common.{◌≡◌, ◌-◌, ◌≤◌, length}
 use Rattle.words.specs.Lent.{copied_range}
-use Rattle.words.specs.Lent.Laws.{copied_range_none, copied_range_more}
 use Rattle.words.proofs.lent.copy_range.Given as goal
 
 abbrev pub invariant-loop-done : goal.invariant-loop-done
 invariant-loop-done l =
     (l.done ≤ l.count) × (length l.target ≡ length l.initial.target) × (l.target ≡ copied_range l.initial.target l.at l.source l.from l.done)
 
-
 abbrev pub decreases-loop-done : goal.decreases-loop-done
 decreases-loop-done l = l.count - l.done
-

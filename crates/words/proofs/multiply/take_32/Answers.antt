@@ -1,5 +1,5 @@
 -- `take_32` takes 32 bits: eight, then three times the eight below, each put under the others by `then`.
-use Rattle.std.proofs.Common.{ℕ, ◌/◌, ◌^◌, refl, arith, rules}
+use Rattle.std.proofs.Common.{ℕ, ◌/◌, ◌^◌, refl, arith}
 use Rattle.words.specs.Multiply.Laws.{then}
 use Rattle.words.proofs.multiply.take_32.Goals as goal
 
@@ -13,4 +13,3 @@ returns c =
     let after-16 = then 8 8 sum x (bits / 2 ^ 24) (bits / 2 ^ 16) after-8 c.take_8-after_16.ensures (omega arith) in
     let after-24 = then 16 8 sum x (bits / 2 ^ 16) (bits / 2 ^ 8) after-16 c.take_8-after_24.ensures (omega arith) in
     then 24 8 sum x (bits / 2 ^ 8) bits after-24 c.take_8.ensures refl
-

@@ -1,5 +1,5 @@
 -- `take_8` takes eight bits: one, then seven times the one below. Each line says what was taken so far, and `then` puts the next under it.
-use Rattle.std.proofs.Common.{ℕ, ◌/◌, refl, arith, rules}
+use Rattle.std.proofs.Common.{ℕ, ◌/◌, refl, arith}
 use Rattle.words.specs.Multiply.Laws.{then}
 use Rattle.words.proofs.multiply.take_8.Goals as goal
 
@@ -16,4 +16,3 @@ returns c =
     let after-6 = then 5 1 sum x (bits / 8) (bits / 4) after-5 c.take_bit-after_6.ensures (omega arith) in
     let after-7 = then 6 1 sum x (bits / 4) (bits / 2) after-6 c.take_bit-after_7.ensures (omega arith) in
     then 7 1 sum x (bits / 2) bits after-7 c.take_bit.ensures refl
-

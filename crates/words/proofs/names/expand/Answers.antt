@@ -1,12 +1,10 @@
 -- `expand` answers what `expanded` says: each `return` cites the law of its case.
-use Rattle.std.proofs.Common.{sym, rules}
+use Rattle.std.proofs.Common.{sym}
 use Rattle.words.specs.Compact.Laws.{expanded_mark, expanded_state}
 use Rattle.words.proofs.names.expand.Goals as goal
 
 pub returns-then-held : goal.returns-then-held
 returns-then-held c = sym (expanded_mark _ c.if-held.true)
 
-
 pub returns : goal.returns
 returns c = sym (expanded_state _ c.if-held.false)
-

@@ -9,4 +9,3 @@ returns c =
     let kept = c.ranges.kept.fits in
     let other = c.ranges.other.fits in
     ap (bit_or c.args.kept) (mark_alone c.args.other other) ∙ or_mark c.args.kept c.args.other kept other
-

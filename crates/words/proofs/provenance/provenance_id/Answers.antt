@@ -6,4 +6,3 @@ use Rattle.words.proofs.provenance.provenance_id.Goals as goal
 pub returns : goal.returns
 unfolding id_of
 returns c = and_mask c.args.word 31
-

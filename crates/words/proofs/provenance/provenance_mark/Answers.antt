@@ -4,4 +4,3 @@ use Rattle.words.proofs.provenance.provenance_mark.Goals as goal
 
 pub returns : goal.returns
 returns c = mark_alone c.args.word c.ranges.word.fits
-

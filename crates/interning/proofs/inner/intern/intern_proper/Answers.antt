@@ -1,10 +1,9 @@
 -- Two contexts are tried, then a lookup; what it does not find is made.
-use borrow.Author.Rules.{rules}
 use mathlib.Core.Path.{◌≡◌, sym, ap, ◌∙◌}
 use Rattle.index.specs.Found.{found_of}
 use Rattle.index.specs.declared.find.Lookup.TheVariants.{At}
 use Rattle.interning.specs.Live.{live_length}
-use Rattle.interning.specs.Making.{pushed_512, pushed_hash, pushed_sought, pushed_beside, side_pushed, found_pushed, missing_of}
+use Rattle.interning.specs.Making.{pushed_hash, pushed_sought, pushed_beside, side_pushed, found_pushed, missing_of}
 use Rattle.interning.proofs.inner.intern.intern_proper.Goals as goal
 
 pub count_of-count-requires : goal.count_of-count-requires
@@ -12,16 +11,13 @@ count_of-count-requires c =
     let pre = c.requires in
     live_length pre.0.live
 
-
 pub returns-then-same_record : goal.returns-then-same_record
 returns-then-same_record c =
     side_pushed c.requires.0 c.args.one.0 c.requires.2 (sym c.same_record.ensures ∙ c.if-same_record.true)
 
-
 pub returns-then-same_record-2 : goal.returns-then-same_record-2
 returns-then-same_record-2 c =
     side_pushed c.requires.0 c.args.other.0 c.requires.3 (sym c.same_record-2.ensures ∙ c.if-same_record-2.true)
-
 
 pub find_interned-found-requires : goal.find_interned-found-requires
 find_interned-found-requires c =
@@ -29,7 +25,6 @@ find_interned-found-requires c =
     let pre = c.requires in
     rw c.count_of-count.ensures
     (pushed_sought pre.0 pre.1 entries-hash.result (pushed_hash pre.0 entries-hash.result entries-hash.ensures))
-
 
 pub push_new-requires : goal.push_new-requires
 push_new-requires c =
@@ -39,7 +34,6 @@ push_new-requires c =
     missing_of pre.0 pre.1 entries-hash.result (pushed_hash pre.0 entries-hash.result entries-hash.ensures)
     (sym (rw c.count_of-count.ensures at find-interned.ensures) ∙ ap found_of c.in_default.is)
 
-
 pub returns : goal.returns
 returns c =
     let find-interned = c.find_interned-found in
@@ -47,7 +41,6 @@ returns c =
     let e : find-interned.result ≡ At c.in-At.context = cc in
     found_pushed pre.0 pre.1 c.in-At.context.0
     (sym (rw c.count_of-count.ensures at find-interned.ensures) ∙ ap found_of e)
-
 
 pub same_record-requires : goal.same_record-requires
 same_record-requires c =

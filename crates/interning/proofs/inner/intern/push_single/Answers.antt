@@ -1,5 +1,4 @@
 -- The record is written, counted and indexed; or there are 512 contexts already.
-use borrow.Author.Rules.{rules}
 use native.Mathlib.Omega.{arith}
 use mathlib.Core.Path.{refl, ap, ◌∙◌}
 use lib.ListN.{length}
@@ -12,12 +11,10 @@ pub count_of-count-requires : goal.count_of-count-requires
 count_of-count-requires c =
     live_length c.requires.pushed.live
 
-
 pub used_of-used-requires : goal.used_of-used-requires
 used_of-used-requires c =
     let pre = c.requires in
     live_length pre.pushed.live
-
 
 pub returns-then-count-ge-MOST_CONTEXTS : goal.returns-then-count-ge-MOST_CONTEXTS
 returns-then-count-ge-MOST_CONTEXTS c =
@@ -28,13 +25,11 @@ returns-then-count-ge-MOST_CONTEXTS c =
       refl,
     )
 
-
 pub put_record-requires : goal.put_record-requires
 put_record-requires c =
     let pre = c.requires in
     let if1 = c.if-count-ge-MOST_CONTEXTS in
     (live_length pre.pushed.live, if1.false)
-
 
 pub put_counts-requires : goal.put_counts-requires
 put_counts-requires c =
@@ -45,7 +40,6 @@ put_counts-requires c =
       omega
           (arith, used-of.ensures, (live_sound pre.pushed.live).counted.2),
     )
-
 
 pub returns : goal.returns
 returns c =
@@ -62,4 +56,3 @@ returns c =
     used-of.ensures put-counts.new.store add-to-index.new.scratch add-to-index.ensures refl if1.false
     stack-parent.result stack-state.result stack-parent.ensures stack-state.ensures put_record.new.store put_record.ensures
     put-counts.ensures
-

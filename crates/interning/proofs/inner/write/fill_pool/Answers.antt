@@ -1,12 +1,7 @@
 -- What is written and what is left make the whole; a turn writes one entry, by `fill_turn`.
-use borrow.Author.Rules.{rules}
 use native.Mathlib.Omega.{arith}
-use mathlib.Core.Path.{◌≡◌, sym, ◌∙◌}
-use Prim.Native.Nat.{◌+◌, ◌-◌, ◌≤◌}
-use lib.ListN.{length}
-use Rattle.layout.specs.Encode.{fill}
-use Rattle.index.specs.Records.{stack_node}
-use Rattle.interning.specs.Write.{fill_start, fill_turn, fill_end, length_put_pool}
+use mathlib.Core.Path.{sym, ◌∙◌}
+use Rattle.interning.specs.Write.{fill_turn, fill_end, length_put_pool}
 use Rattle.interning.proofs.inner.write.fill_pool.Goals as goal
 
 pub loop-i-preserved : goal.loop-i-preserved
@@ -21,11 +16,9 @@ loop-i-preserved c =
     rw (c.put_pool.ensures, stack-parent.ensures, stack-state.ensures)
     (omega arith, length_put_pool _ _ _ _ ∙ loop.invariant.1, loop.invariant.2 ∙ turn)
 
-
 pub returns : goal.returns
 returns c =
     let args = c.args in
     sym
     (c.loop-i.invariant.2 ∙ fill_end c.loop-i.store args.scratch.now args.used args.at args.n
     c.loop-i.i (omega arith))
-

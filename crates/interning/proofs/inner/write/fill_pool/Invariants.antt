@@ -1,18 +1,13 @@
 -- What is written and what is left make the whole; a turn writes one entry, by `fill_turn`.
-use borrow.Author.Rules.{rules}
-use native.Mathlib.Omega.{arith}
-use mathlib.Core.Path.{◌≡◌, sym, ◌∙◌}
+use mathlib.Core.Path.{◌≡◌}
 use Prim.Native.Nat.{◌+◌, ◌-◌, ◌≤◌}
 use lib.ListN.{length}
 use Rattle.layout.specs.Encode.{fill}
 use Rattle.index.specs.Records.{stack_node}
-use Rattle.interning.specs.Write.{fill_start, fill_turn, fill_end, length_put_pool}
 use Rattle.interning.proofs.inner.write.fill_pool.Given as goal
 
 abbrev pub invariant-loop-i : goal.invariant-loop-i
 invariant-loop-i l = (l.i ≤ l.n) × (length l.store ≡ 5634) × (fill l.initial.store l.used (stack_node l.scratch l.at l.n) ≡ fill l.store (l.used + l.i) (stack_node l.scratch (l.at + l.i) (l.n - l.i)))
 
-
 abbrev pub decreases-loop-i : goal.decreases-loop-i
 decreases-loop-i l = l.n - l.i
-

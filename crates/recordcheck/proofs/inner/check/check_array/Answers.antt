@@ -1,8 +1,6 @@
 -- Each test that fails says that the record is not good; the last is the lookup.
-use borrow.Author.Rules.{rules}
 use native.Mathlib.Omega.{arith}
-use borrow.Author.Tests.{not-true, not-false}
-use Rattle.recordcheck.specs.Judge.{array_gap, array_short, array_past, array_unsound, many_fresh, many_good, many_bad}
+use Rattle.recordcheck.specs.Judge.{many_fresh, many_good, many_bad}
 use Rattle.recordcheck.proofs.inner.check.check_array.Goals as goal
 
 pub check_new-requires : goal.check_new-requires

@@ -1,9 +1,7 @@
 -- The index says whether the entries are new; if so they go in front of their chain.
-use borrow.Author.Rules.{rules}
 use mathlib.Core.Path.{sym, ap, ◌∙◌}
-use Rattle.arena.proofs.Trees.{at_nowhere}
 use Rattle.index.specs.Found.{found_of}
-use Rattle.recordcheck.specs.Fresh.{fresh_stacked, fresh_sought, fresh_indexed}
+use Rattle.recordcheck.specs.Fresh.{fresh_sought, fresh_indexed}
 use Rattle.recordcheck.proofs.inner.check.check_new.Goals as goal
 
 pub find_interned-found-requires : goal.find_interned-found-requires

@@ -1,5 +1,4 @@
 -- A singleton, an array, or no good record.
-use borrow.Author.Rules.{rules}
 use mathlib.Core.Path.{sym, ◌∙◌}
 use Rattle.recordcheck.specs.Judge.{good_kind}
 use Rattle.recordcheck.proofs.inner.check.check_record.Goals as goal

@@ -1,7 +1,6 @@
 -- Each test that fails says that the record is not good; the last is the lookup.
-use borrow.Author.Rules.{rules}
 use native.Mathlib.Omega.{arith}
-use Rattle.recordcheck.specs.Judge.{single_not_older, single_stop, read_fresh, read_good, read_bad}
+use Rattle.recordcheck.specs.Judge.{read_fresh, read_good, read_bad}
 use Rattle.recordcheck.proofs.inner.check.check_single.Goals as goal
 
 pub check_new-requires : goal.check_new-requires

@@ -1,18 +1,10 @@
 -- The configs up to `place` have passed, and the flags are theirs; the first that does not pass ends the check.
-use borrow.Author.Rules.{rules}
-use native.Mathlib.Omega.{arith}
-use mathlib.Core.Path.{◌≡◌, sym, ◌∙◌}
 use Prim.Native.Nat.{◌-◌, ◌≤◌}
-use borrow.Author.Tests.{not-true, not-false}
-use native.Mathlib.Numerals.{add-one}
-use Rattle.setcheck.specs.Configs.{config_of}
-use Rattle.setcheck.specs.Judged.{Gathered, gathered_none, gathered_next}
+use Rattle.setcheck.specs.Judged.{Gathered}
 use Rattle.setcheck.proofs.inner.check.check_configs.Given as goal
 
 abbrev pub invariant-loop-place : goal.invariant-loop-place
 invariant-loop-place l = Gathered l.set l.initial.scratch l.contexts l.place l.flags l.scratch × (l.place ≤ l.count)
 
-
 abbrev pub decreases-loop-place : goal.decreases-loop-place
 decreases-loop-place l = l.count - l.place
-

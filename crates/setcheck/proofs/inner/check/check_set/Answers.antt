@@ -1,8 +1,7 @@
 -- The configs are judged over empty chains, then the flags and the unused words.
-use borrow.Author.Rules.{rules}
 use mathlib.Core.Path.{◌≡◌}
 use Rattle.setcheck.specs.declared.inner.check.Checked.TheVariants.{Flags}
-use Rattle.setcheck.specs.Verdicts.{start_passed, bad_verdict, other_flags, last_verdict}
+use Rattle.setcheck.specs.Verdicts.{start_passed, other_flags, last_verdict}
 use Rattle.setcheck.proofs.inner.check.check_set.Goals as goal
 
 pub check_configs-checked-requires : goal.check_configs-checked-requires
@@ -12,7 +11,6 @@ check_configs-checked-requires c =
     let clear-range = c.clear_range in
     let if1 = c.if-count-gt-MOST_CONFIGS in
     (start_passed args.set.now args.scratch.now args.contexts pre.0 pre.1 clear-range.new.words clear-range.ensures, if1.false)
-
 
 pub returns-then-held-flags : goal.returns-then-held-flags
 returns-then-held-flags c =
@@ -27,7 +25,6 @@ returns-then-held-flags c =
     config-count.result config-count.ensures if1.false check-configs.new.scratch check-configs.result check-configs.ensures
     c.in-Flags.flags e flag_word.result flag_word.ensures c.if-held-flags.true
 
-
 pub returns : goal.returns
 returns c =
     let check-configs = c.check_configs-checked in
@@ -41,4 +38,3 @@ returns c =
     last_verdict args.set.now args.scratch.now args.contexts pre.0 pre.1 c.clear_range.new.words c.clear_range.ensures
     config-count.result config-count.ensures if1.false check-configs.new.scratch check-configs.result check-configs.ensures
     c.in-Flags.flags e flag_word.result flag_word.ensures if2.false c.if-held-flags.false c.all_zero.result c.all_zero.ensures
-

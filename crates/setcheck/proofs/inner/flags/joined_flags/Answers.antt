@@ -1,5 +1,4 @@
 -- One flag after the other.
-use borrow.Author.Rules.{rules}
 use mathlib.Core.Path.{ap, ◌∙◌}
 use Prim.Native.Nat.{ℕ}
 use Rattle.setcheck.specs.Flags.{joined_flags, with_flag}
@@ -10,4 +9,3 @@ unfolding joined_flags
 returns c =
     let args = c.args in
     c.with_flag-2.ensures ∙ ap (λ (n : ℕ). with_flag n 4 args.config.reaches_into_outer_context) c.with_flag.ensures
-

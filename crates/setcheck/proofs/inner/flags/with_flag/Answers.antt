@@ -8,9 +8,7 @@ returns-then-word-eq0 c =
     let args = c.args in
     sym (flag_none args.flags args.flag args.word c.if-word-eq0.true)
 
-
 pub returns : goal.returns
 returns c =
     let args = c.args in
     sym (flag_some args.flags args.flag args.word c.if-word-eq0.false)
-

@@ -1,16 +1,10 @@
 -- The chain is followed link by link; what is known at a link is `Walking`.
-use borrow.Author.Rules.{rules}
-use native.Mathlib.Omega.{arith}
-use mathlib.Core.Path.{sym, ap, ◌∙◌}
-use Rattle.sets.specs.Sets.{same_keys}
 use Rattle.setcheck.specs.Configs.{config_of}
-use Rattle.setcheck.specs.Keys.{Walking, walk_begin, walk_here, walk_hit, walk_on, walk_end}
+use Rattle.setcheck.specs.Keys.{Walking}
 use Rattle.setcheck.proofs.inner.keys.find_key.Given as goal
 
 abbrev pub invariant-loop-next : goal.invariant-loop-next
 invariant-loop-next l = Walking l.set l.count (config_of l.config) l.next
 
-
 abbrev pub decreases-loop-next : goal.decreases-loop-next
 decreases-loop-next l = l.next
-

@@ -1,5 +1,4 @@
 -- Word 0.
-use borrow.Author.Rules.{rules}
 use mathlib.Core.Path.{refl}
 use Rattle.sets.specs.Layout.{config_count}
 use Rattle.setcheck.proofs.inner.read.config_count.Goals as goal
@@ -7,4 +6,3 @@ use Rattle.setcheck.proofs.inner.read.config_count.Goals as goal
 pub returns : goal.returns
 unfolding config_count
 returns c = refl
-

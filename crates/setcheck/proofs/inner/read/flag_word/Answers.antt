@@ -1,5 +1,4 @@
 -- Word 1.
-use borrow.Author.Rules.{rules}
 use mathlib.Core.Path.{refl}
 use Rattle.sets.specs.Layout.{flag_word}
 use Rattle.setcheck.proofs.inner.read.flag_word.Goals as goal
@@ -7,4 +6,3 @@ use Rattle.setcheck.proofs.inner.read.flag_word.Goals as goal
 pub returns : goal.returns
 unfolding flag_word
 returns c = refl
-

@@ -1,5 +1,4 @@
 -- One bit of word 1.
-use borrow.Author.Rules.{rules}
 use mathlib.Core.Path.{refl}
 use Rattle.sets.specs.Layout.{flag, flag_word}
 use Rattle.setcheck.proofs.inner.read.has_flag.Goals as goal
@@ -7,4 +6,3 @@ use Rattle.setcheck.proofs.inner.read.has_flag.Goals as goal
 pub returns : goal.returns
 unfolding flag flag_word
 returns c = refl
-

@@ -1,8 +1,6 @@
 -- What `open_store` said, and then the context's number.
-use borrow.Author.Rules.{rules}
-use mathlib.Core.Path.{◌≡◌, ◌∙◌}
-use Rattle.store.specs.declared.inner.admit.Admitted.TheVariants.{Refused}
-use Rattle.store.specs.Admit.{refused_first, opened_ready, admits_known, admits_unknown, cleared}
+use mathlib.Core.Path.{◌∙◌}
+use Rattle.store.specs.Admit.{opened_ready, admits_known, admits_unknown, cleared}
 use Rattle.store.proofs.inner.admit.admit.Goals as goal
 
 pub returns-then-context-count_of : goal.returns-then-context-count_of

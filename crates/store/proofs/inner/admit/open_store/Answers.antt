@@ -1,5 +1,4 @@
 -- Lengths, then soundness: each refusal is what the definition leaves.
-use borrow.Author.Rules.{rules}
 use mathlib.Core.Path.{sym, ap, ◌∙◌}
 use mathlib.Core.List.{List}
 use Rattle.store.specs.Calls.{refused, leaves}

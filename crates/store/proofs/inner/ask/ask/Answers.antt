@@ -1,5 +1,4 @@
 -- What `admit` answered; where it let the call pass, the scratch is cleared.
-use borrow.Author.Rules.{rules}
 use Rattle.store.specs.Asks.{asks_known, asks_refused}
 use Rattle.store.proofs.inner.ask.ask.Goals as goal
 

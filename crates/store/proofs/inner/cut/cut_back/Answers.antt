@@ -1,5 +1,4 @@
 -- Three ranges are cleared and the counts written: `cut`, by computation.
-use borrow.Author.Rules.{rules}
 use Rattle.encoding.specs.Cut.{cut}
 use Rattle.store.proofs.inner.cut.cut_back.Goals as goal
 

@@ -1,10 +1,5 @@
 -- The records up to `context` have passed; the first that does not ends the check.
-use borrow.Author.Rules.{rules}
-use native.Mathlib.Omega.{arith}
-use mathlib.Core.Path.{◌≡◌}
 use Prim.Native.Nat.{◌-◌, ◌≤◌}
-use native.Mathlib.Numerals.{add-one}
-use Rattle.recordcheck.specs.declared.inner.check.Checked.TheVariants.{Good, Bad}
 use Rattle.recordcheck.specs.Check.{Passed}
 use Rattle.storecheck.proofs.inner.check.check_records.Given as goal
 

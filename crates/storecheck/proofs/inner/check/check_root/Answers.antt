@@ -1,5 +1,4 @@
 -- Three words are 0; then record 0 is the first of an empty index.
-use borrow.Author.Rules.{rules}
 use mathlib.Core.Path.{sym, ◌∙◌}
 use Rattle.recordcheck.specs.Check.{Root}
 use Rattle.storecheck.specs.Judgements.{root_passed}

@@ -1,8 +1,6 @@
 -- Each test that fails contradicts a clause of soundness; together they give all clauses.
-use borrow.Author.Rules.{rules}
 use native.Mathlib.Omega.{arith}
 use mathlib.Core.Path.{◌≡◌, sym, ◌∙◌}
-use borrow.Author.Tests.{not-true, not-false}
 use Rattle.recordcheck.specs.declared.inner.check.Checked.TheVariants.{Good, Bad}
 use Rattle.layout.specs.Layout.{count}
 use Rattle.recordcheck.specs.Check.{Passed}

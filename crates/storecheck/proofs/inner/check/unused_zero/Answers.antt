@@ -1,7 +1,5 @@
 -- Three ranges are all 0, or one of them is not.
-use borrow.Author.Rules.{rules}
 use mathlib.Core.Path.{sym, ◌∙◌}
-use borrow.Author.Tests.{not-true, not-false}
 use mathlib.Core.Bool.{false≢true}
 use Rattle.recordcheck.specs.Check.{Unused}
 use Rattle.recordcheck.specs.Judge.{tells_if}
