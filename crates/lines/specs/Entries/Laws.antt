@@ -8,7 +8,7 @@ use Prim.Native.Nat.{ℕ, zero, suc, ◌+◌, ◌-◌, ◌*◌, ◌<◌, ◌≤�
 use native.Mathlib.Omega.{arith}
 use Rattle.std.proofs.Math.ListN.{length, length-append}
 use Rattle.cases.specs.Numbers.{two}
-use Rattle.arena.specs.Store.{dollar, node_at}
+use Rattle.arena.specs.Store.{node_at}
 use Rattle.arena.specs.Kinds.{size}
 use Rattle.layout.specs.Layout.{most_contexts, most_entries, stop, count, kind, first, second, parent, state}
 use Rattle.layout.specs.Listing.{listing}
