@@ -42,7 +42,7 @@ use Rattle.store.specs.Calls.{refused, context, Left, refusal, gives_after, Acce
 use Rattle.store.specs.Calls.Laws.{refused_exactly, refused_leaves, accepted, right_lengths, is_sound, both_known, has_room, little_work, accepted_merges, made_exactly, found_exactly}
 use Rattle.store.specs.Nested.{if_known}
 use Rattle.store.specs.Admit.{known_goes, unknown}
-use Rattle.interning.specs.SingletonCall.Laws.{checked_agree}
+use Rattle.interning.proofs.SingletonNested.{checked_agree}
 use Rattle.interning.proofs.Promises.{After, after_of, no_refusal}
 use Rattle.contexts.specs.MergeCall.{merge_checks, merge_call}
 use Rattle.contexts.specs.MergeCall.Laws.{merge_nested, worked_sides}

@@ -30,7 +30,8 @@ use Rattle.store.specs.declared.inner.admit.Admitted.TheVariants.{Ready as ready
 use Rattle.store.specs.Calls.{refused, context, Left, zeros, leaves, leaves_after}
 use Rattle.store.specs.Nested.{grown}
 use Rattle.interning.specs.Live.{Live, Pushed, GrewTo, live_count, ready_live}
-use Rattle.interning.specs.SingletonCall.Laws.{singleton_nested, if_state, placed_single}
+use Rattle.interning.specs.SingletonCall.Laws.{if_state, placed_single}
+use Rattle.interning.proofs.SingletonNested.{singleton_nested}
 use Rattle.interning.specs.SingletonCall.{singleton_call}
 use Rattle.interning.specs.Interned.{More, Interns, answered}
 use Rattle.interning.specs.Replies.{numbered}

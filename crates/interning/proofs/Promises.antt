@@ -39,7 +39,7 @@ use Rattle.store.specs.Calls.Laws.{determined, same_context, not_context, refuse
 use Rattle.store.specs.Calls.Laws.{accepted_made, made_exactly, found_exactly}
 use Rattle.store.proofs.Told.{number_tells}
 use Rattle.interning.specs.SingletonCall.{single_s, singleton_checks, singleton_call}
-use Rattle.interning.specs.SingletonCall.Laws.{single_mark, single_state}
+use Rattle.interning.proofs.SingletonNested.{single_mark, single_state}
 use Rattle.interning.specs.Replies.{numbered}
 use Rattle.interning.specs.declared.single.Numbered.{Numbered}
 use Rattle.interning.specs.declared.single.Numbered.TheVariants.{Number, Refused}

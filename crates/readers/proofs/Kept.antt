@@ -27,7 +27,7 @@ use Rattle.encoding.proofs.DecideLaws.{fits_true}
 use Rattle.store.specs.Checks.{Check, given, unless}
 use Rattle.store.specs.Checks.Laws.{Clear, unless_first, unless_next}
 use Rattle.interning.specs.SingletonCall.{single_s}
-use Rattle.interning.specs.SingletonCall.Laws.{single_mark, single_state}
+use Rattle.interning.proofs.SingletonNested.{single_mark, single_state}
 use Rattle.sets.specs.Config.{Config, config}
 use Rattle.sets.specs.Lists.{any, all}
 use Rattle.sets.specs.Layout.{most_configs}

@@ -19,7 +19,8 @@ use Rattle.layout.specs.Decode.{store_of}
 use Rattle.layout.specs.Encode.{words_of}
 use Rattle.encoding.specs.Decide.{fits}
 use Rattle.encoding.proofs.DecideLaws.{true_fits, fits_false}
-use Rattle.encoding.specs.Cut.{cut, cut_back}
+use Rattle.encoding.specs.Cut.{cut}
+use Rattle.encoding.proofs.CutBack.{cut_back}
 use Rattle.index.specs.Grow.{index_frame}
 use Rattle.work.specs.Counted.{Outcome, done, refused as over, State, counted, counting, too_much, count_of}
 use Rattle.work.proofs.Theorems.{answer_is, answer_fits, refusal_is, sides_exchanged}
