@@ -4,11 +4,12 @@
 
 mod sample;
 
-ghost use Rattle.std.specs.Prelude.{◌≡◌, length};
+ghost use Rattle.std.specs.Prelude.{◌≡◌, ◌≤◌, length, IfOk};
 ghost use Rattle.replay.specs.Sample.{sample_bytes};
 
-use libc::STDOUT_FILENO;
 use sample::{Tally, compare};
+use std::io::Read;
+use std::{fs, io};
 
 // Bytes of a sample, at most.
 const SAMPLE_BYTES: usize = 1048576;
@@ -20,27 +21,33 @@ fn room() -> [u8; SAMPLE_BYTES]
     [0; SAMPLE_BYTES]
 }
 
-// Prints what a comparison found.
-fn report(tally: Tally) {
-    let Tally::Whole(scripts, differences) = tally else {
-        io::write_all(STDOUT_FILENO, b"sample.bin is cut short\n");
-        return;
-    };
-    io::print_decimal(STDOUT_FILENO, scripts);
-    io::write_all(STDOUT_FILENO, b" scripts, ");
-    io::print_decimal(STDOUT_FILENO, differences);
-    io::write_all(STDOUT_FILENO, b" differences\n");
+// Reads until `buf` is full or the input ends, and returns how many bytes it put at the start of
+// `buf`. A read that a signal interrupts counts as one that failed.
+fn read_full(input: &mut impl Read, buf: &mut [u8]) -> io::Result<usize>
+    ensures { IfOk result (λ n. n ≤ length buf.new) }
+{
+    let mut done = 0;
+    while done < buf.len() {
+        let n = input.read(&mut buf[done..])?;
+        if n == 0 {
+            break;
+        }
+        done += n;
+    }
+    Ok(done)
 }
 
-fn main() {
-    let path = b"sample.bin";
-    let file = os::open_read(path);
-    if file < 0 {
-        os::fail(path);
-        return;
-    }
+// Prints what a comparison found.
+fn report(rt: &impl Print, tally: Tally) -> io::Result<()> {
+    let Tally::Whole(scripts, differences) = tally else {
+        return println!(rt; "sample.bin is cut short");
+    };
+    println!(rt; "{scripts} scripts, {differences} differences")
+}
+
+fn main(rt: HostRuntime) -> io::Result<()> {
+    let mut file = fs::open(&rt, "sample.bin")?;
     let mut sample = room();
-    let n = io::read_full(file, &mut sample);
-    libc::close(file);
-    report(compare(&sample[..n]));
+    let n = read_full(&mut file, &mut sample)?;
+    report(&rt, compare(&sample[..n]))
 }

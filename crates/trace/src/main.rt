@@ -2,29 +2,31 @@
 // end line.
 #![tactic(auto)]
 
-ghost use Rattle.std.specs.Prelude.{◌≤◌, length};
+ghost use Rattle.std.specs.Prelude.{◌≤◌, length, IfOk, IsOk, IsTrue, ◌↔◌};
 ghost use Rattle.replies.specs.Replies.{lent};
 ghost use Rattle.trace.specs.Traced.{Traced};
 
 use layout::{SCRATCH_WORDS, STORE_WORDS};
-use libc::{STDERR_FILENO, STDIN_FILENO, STDOUT_FILENO};
 use lines::LINE_BYTES;
+use std::io;
+use std::io::Read;
 use steps::{MOST_BYTES, Ran, SET_WORDS, STOP_WORDS};
 
 // Writes the reply that stands at the start of `out`. Where that fails, it says so.
-fn write_reply(out: &[u8], wrote: usize) -> bool
+fn write_reply(rt: &(impl Print + Eprint), out: &[u8], wrote: usize) -> bool
     requires { wrote ≤ length out.now }
 {
-    if io::write_all(STDOUT_FILENO, &out[..wrote]) {
+    if rt.write_all(&out[..wrote]).is_ok() {
         return true;
     }
-    io::write_all(STDERR_FILENO, b"trace: standard output cannot be written\n");
+    let _ = rt.eprintln("trace: standard output cannot be written");
     false
 }
 
 // Runs a script from the start: each reply is written as it comes, then the end line. False where a
 // write failed: there it stops.
 fn run_script(
+    rt: &(impl Print + Eprint),
     bytes: &[u8],
     store: &mut [u32; STORE_WORDS],
     set: &mut [u32; SET_WORDS],
@@ -40,44 +42,62 @@ fn run_script(
         let ran = steps::run_step(bytes, at, store, set, stops, scratch, out);
         match ran {
             Ran::Next(wrote, next) => {
-                if !write_reply(out, wrote) {
+                if !write_reply(rt, out, wrote) {
                     return false;
                 }
                 at = next;
             }
             Ran::Over(wrote) => {
-                if !write_reply(out, wrote) {
+                if !write_reply(rt, out, wrote) {
                     return false;
                 }
                 let last = lines::lay_end(out, store);
-                return write_reply(out, last);
+                return write_reply(rt, out, last);
             }
         }
     }
 }
 
-// Was all of the input read? `read_full` stops at its end and where a read fails: one more read
-// tells the two apart, and where it fails, says so.
-fn was_read() -> bool {
-    let mut more = [0u8; 1];
-    if libc::read(STDIN_FILENO, &mut more) < 0 {
-        io::write_all(STDERR_FILENO, b"trace: standard input cannot be read\n");
+// Reads until `buf` is full or the input ends, and returns how many bytes it put at the start of
+// `buf`. A read that a signal interrupts counts as one that failed.
+fn read_full(input: &mut impl Read, buf: &mut [u8]) -> io::Result<usize>
+    ensures { IfOk result (λ n. n ≤ length buf.new) }
+{
+    let mut done = 0;
+    while done < buf.len() {
+        let n = input.read(&mut buf[done..])?;
+        if n == 0 {
+            break;
+        }
+        done += n;
+    }
+    Ok(done)
+}
+
+// Was all of the input read? Where a read failed, it says so.
+fn was_read(rt: &impl Eprint, read: &io::Result<usize>) -> bool
+    ensures { IsTrue result ↔ IsOk read.now }
+{
+    if read.is_err() {
+        let _ = rt.eprintln("trace: standard input cannot be read");
         return false;
     }
     true
 }
 
 // One byte more than a script may have is enough to see that it is overlong.
-fn main() {
+fn main(rt: HostRuntime) {
     let mut input = [0u8; MOST_BYTES + 1];
     let mut store = [0u32; STORE_WORDS];
     let mut set = [0u32; SET_WORDS];
     let mut stops = [0u32; STOP_WORDS];
     let mut scratch = [0u32; SCRATCH_WORDS];
     let mut out = [0u8; LINE_BYTES];
-    let n = io::read_full(STDIN_FILENO, &mut input);
-    if was_read() {
+    let read = read_full(&mut rt.stdin(), &mut input);
+    if was_read(&rt, &read) {
+        let n = read.unwrap();
         run_script(
+            &rt,
             &input[..n],
             &mut store,
             &mut set,

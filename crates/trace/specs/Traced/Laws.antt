@@ -35,9 +35,11 @@ module _ {s : List ℕ} {i : ℕ} {l : Lent} (v : Stands s i l) {r : Ran} {u : L
     made = rw p.words at (made_next s v.steps v.replies i l v.made j (p.after ∙ q));
   }
 
+  over_is : after_of r ≡ over → m ≡ (run_of s).words
+  over_is q = sym p.words ∙ sym (ap (λ (x : Printed). x.words) (made_over_lem s v.steps v.replies i l v.made (p.after ∙ q)))
+
   -- the script is over; all its steps are some of them
   pub stands_over : after_of r ≡ over → (b : Bool) → Traced s b m
   unfolding run_of
-  stands_over q b =
-      let e : m ≡ (run_of s).words = sym p.words ∙ sym (ap (λ (x : Printed). x.words) (made_over_lem s v.steps v.replies i l v.made (p.after ∙ q))) in
-      elim b [ true ↦ e | false ↦ (suc (length s), e) ]
+  stands_over q true = over_is q
+  stands_over q false = (suc (length s), over_is q)
