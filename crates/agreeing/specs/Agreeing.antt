@@ -1,7 +1,7 @@
 -- Bytes of a recorded answer compared with bytes laid out. Nothing here has to be believed.
 use Rattle.std.specs.Prelude.{◌≡◌, Bool, true, false, List, [], ◌∷◌, ◌++◌, ℕ, ◌+◌, ◌-◌, ◌<◌, ◌≤◌, length, get_or, take, drop}
 use Rattle.std.proofs.Common.{sym, ap, ◌∙◌, arith, add-one, length-append, length-take, length-drop, take-suc, get_or-take, get_or-drop, take-add, take_all, drop_at, length-take-le}
-use Rattle.recordcheck.specs.Check.{Tells}
+use Rattle.lines.specs.Check.{Tells}
 use Rattle.lines.specs.Laid.{Wrote}
 use Rattle.lines.specs.Laid.Laws.{take_laid}
 

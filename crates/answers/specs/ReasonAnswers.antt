@@ -1,6 +1,6 @@
 -- To believe: the same of the reason of a verdict: which one, 1 to 4 in the order in which they are tried, and what it names; all 0 on a refusal.
 use Rattle.std.specs.Prelude.{ℕ}
-use Rattle.groups.specs.Reason.{stop, none, one, clash}
+use Rattle.deciding.specs.Reason.{stop, none, one, clash}
 use Rattle.verdicts.specs.Calls.{VerdictReply, refused, says, alternative, written, summary, because}
 use Rattle.answers.specs.declared.reasoning.ReasonAnswer.{ReasonAnswer}
 

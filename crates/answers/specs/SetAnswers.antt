@@ -1,6 +1,6 @@
 -- To believe: the same of a reply of a call on a set; inserted is 1 and merged 0.
 use Rattle.std.specs.Prelude.{ℕ}
-use Rattle.sets.specs.Calls.{SetLeft, SetReply, refused, done, added}
+use Rattle.deciding.specs.Calls.{SetLeft, SetReply, refused, done, added}
 use Rattle.answers.specs.declared.structs.Answer.{Answer}
 use Rattle.answers.specs.declared.structs.CountedAnswer.{CountedAnswer}
 use Rattle.answers.specs.Answers.{counted}

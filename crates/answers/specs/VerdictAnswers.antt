@@ -1,6 +1,6 @@
 -- To believe: the same of a reply of a call on a set's subsets; yes is 1, no is 0, and an alternative that there is has a 1 of its own beside it.
 use Rattle.std.specs.Prelude.{true, false, ℕ}
-use Rattle.groups.specs.Answers.{none, only}
+use Rattle.deciding.specs.Answers.{none, only}
 use Rattle.verdicts.specs.Calls.{VerdictReply, refused, says, alternative, written, summary, because}
 use Rattle.answers.specs.declared.structs.Answer.{Answer}
 use Rattle.answers.specs.declared.structs.EntryAnswer.{EntryAnswer}

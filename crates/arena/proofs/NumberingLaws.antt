@@ -1,7 +1,7 @@
 -- The numbering rule holds of every set that is placed, and leaves no choice. Nothing here has to be believed.
 use Rattle.std.specs.Prelude.{◌≡◌, refl, Bool, List, [], ◌∷◌, ◌++◌, ℕ, suc, ◌<◌, length}
 use Rattle.std.proofs.Common.{sym, ap, ◌∙◌, arith, ne_eqb}
-use Rattle.cases.specs.Numbers.{two}
+use Rattle.stacks.specs.Numbers.{two}
 use Rattle.stacks.specs.Forest.{Forest, none, mark, over}
 use Rattle.stacks.specs.Canon.{Some, From, Canon}
 use Rattle.stacks.specs.Merge.{merge_t}

@@ -3,12 +3,12 @@
 use Rattle.std.specs.Prelude.{◌≡◌, refl, Bool, true, false, [], ◌∷◌, ℕ, suc, ◌<◌, ◌≤◌, eqb, length}
 use Rattle.std.proofs.Common.{sym, ◌∙◌, arith, eq-eqb, ne_eqb, eqb-true}
 use Rattle.std.proofs.lemmas.Bool.{false≢true}
-use Rattle.cases.specs.Numbers.{two}
+use Rattle.stacks.specs.Numbers.{two}
 use Rattle.stacks.specs.Forest.{Forest}
 use Rattle.stacks.specs.Canon.{Some, From, Canon}
 use Rattle.arena.specs.Store.{Node, end, dollar, push, Store, tree_of, tree, node_at, same, Found, at, nowhere, find}
 use Rattle.arena.proofs.Soundness.{Rise, Full, Sound}
-use Rattle.cases.specs.Bools.{and_left, and_right}
+use Rattle.stacks.specs.Bools.{and_left, and_right}
 
 -- ---- equal records
 

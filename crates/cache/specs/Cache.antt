@@ -1,7 +1,7 @@
 -- The cache's words in the scratch, when they are sound, and what code of this crate leaves there. `z` and `u` are the scratch's words before
 -- and after. Nothing here has to be believed.
 use Rattle.std.specs.Prelude.{◌≡◌, ◌≢◌, Bool, true, false, List, [], ℕ, zero, suc, ◌<◌, ◌≤◌, ◌+◌, ◌*◌, ◌/◌, ◌%◌, min, max, eqb, length, get_or, set}
-use Rattle.layout.specs.Layout.{most_contexts, scratch_words}
+use Rattle.work.specs.Layout.{most_contexts, scratch_words}
 use Rattle.words.specs.Lent.{cleared_range}
 use Rattle.work.specs.Counted.{Result, keep, most_merges, most_results}
 use Rattle.work.proofs.CountedLaws.{result}

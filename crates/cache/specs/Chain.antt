@@ -4,8 +4,8 @@ use Rattle.std.specs.Prelude.{◌≡◌, refl, Bool, ◌&&◌, List, ◌∷◌, 
 use Rattle.std.proofs.Common.{sym, ap, ◌∙◌, arith, eq-eqb, ne_eqb}
 use Rattle.std.specs.Bool.{beq}
 use Rattle.std.proofs.Math.Dec.{eqb}
-use Rattle.cases.specs.Numbers.{two}
-use Rattle.arena.specs.Store.{Found, at}
+use Rattle.words.specs.Numbers.{two}
+use Rattle.work.specs.Store.{Found, at}
 use Rattle.work.specs.Counted.{Result, recall}
 use Rattle.work.proofs.CountedLaws.{result, test}
 use Rattle.work.proofs.Kept.{key_is}

@@ -7,7 +7,7 @@ use mathlib.Core.List.{List, ◌∷◌}
 use native.Mathlib.Omega.{arith}
 use Rattle.std.proofs.Math.ListN.{length, length-set}
 use Rattle.std.proofs.Math.Seq.{get_or-set_same, get_or-set_other}
-use Rattle.cases.specs.Numbers.{two, below?}
+use Rattle.words.specs.Numbers.{two, below?}
 use Rattle.words.specs.Lent.{cleared_range}
 use Rattle.words.specs.Lent.Laws.{length_cleared_range, cleared_range_before, cleared_range_inside, cleared_range_after}
 use Rattle.work.specs.Counted.{Result}

@@ -2,7 +2,7 @@
 use Rattle.std.specs.Prelude.{◌≡◌}
 use Rattle.std.proofs.Common.{sym, ap, ◌∙◌}
 use Rattle.words.specs.declared.names.ContextId.{ContextId}
-use Rattle.arena.specs.Store.{Found, at, nowhere}
+use Rattle.work.specs.Store.{Found, at, nowhere}
 use Rattle.cache.specs.declared.lookup.Recall.{Recall}
 use Rattle.cache.specs.declared.lookup.Recall.TheVariants.{As, Unknown}
 

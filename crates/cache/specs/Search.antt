@@ -3,7 +3,7 @@ use Rattle.std.specs.Prelude.{◌≡◌, refl, Bool, List}
 use Rattle.std.proofs.Common.{sym, ◌∙◌, arith}
 use Rattle.std.proofs.Math.Path.{ap}
 use Prim.Native.Nat.{ℕ, suc, ◌<◌, ◌≤◌, ◌-◌, ◌/◌, ◌%◌}
-use Rattle.arena.specs.Store.{at, nowhere}
+use Rattle.work.specs.Store.{at, nowhere}
 use Rattle.work.specs.Counted.{recall}
 use Rattle.work.proofs.KeptWords.{kept_in}
 use Rattle.cache.specs.Cache.{kept_count, kept_of, result_word, result_link, bucket_head, key_of, bucket_of, bucket_at, newest, CacheSound}

@@ -1,7 +1,7 @@
 // The merges of a call, counted.
 ghost use Rattle.std.specs.Prelude.{◌≡◌, length};
 ghost use Rattle.cache.specs.Cache.{Counts, merges_counted};
-ghost use Rattle.layout.specs.Layout.{scratch_words};
+ghost use Rattle.work.specs.Layout.{scratch_words};
 
 use crate::places::{MERGES, MOST_MERGES};
 

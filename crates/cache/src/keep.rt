@@ -1,7 +1,7 @@
 // The cache made empty, and a result kept.
 ghost use Rattle.std.specs.Prelude.{◌≡◌, ◌<◌, length};
 ghost use Rattle.cache.specs.Cache.{Asked, Emptied, Remembered, put_result};
-ghost use Rattle.layout.specs.Layout.{most_contexts, scratch_words};
+ghost use Rattle.work.specs.Layout.{most_contexts, scratch_words};
 ghost use Rattle.work.specs.Counted.{most_results};
 
 use crate::keys::{bucket, merge_key};

@@ -1,7 +1,7 @@
 // The key of a merge, and the bucket where its result is looked for.
 ghost use Rattle.std.specs.Prelude.{◌≡◌, ◌<◌, max, min};
 ghost use Rattle.cache.specs.Cache.{bucket_of, key_of};
-ghost use Rattle.layout.specs.Layout.{most_contexts};
+ghost use Rattle.work.specs.Layout.{most_contexts};
 
 use words::ContextId;
 

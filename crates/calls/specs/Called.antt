@@ -5,18 +5,18 @@ use mathlib.Core.List.{List, []}
 use Rattle.std.proofs.Common.{arith}
 use Rattle.words.specs.declared.names.ContextId.{ContextId}
 use Rattle.words.specs.declared.names.ReturnState.{ReturnState}
-use Rattle.arena.specs.Store.{node_at}
-use Rattle.layout.specs.Decode.{store_of}
-use Rattle.store.specs.Calls.{done, asked}
-use Rattle.interning.specs.SingletonCall.{singleton_call}
-use Rattle.contexts.specs.MergeCall.{merge_call}
+use Rattle.format.specs.Store.{node_at}
+use Rattle.format.specs.Decode.{store_of}
+use Rattle.format.specs.Calls.{done, asked}
+use Rattle.replies.specs.SingletonCall.{singleton_call}
+use Rattle.replies.specs.MergeCall.{merge_call}
 use Rattle.format.specs.declared.records.Record.{Record}
 use Rattle.format.specs.declared.records.Record.TheVariants.{Singleton, Merge, Show, Stops, OnSet}
 use Rattle.format.specs.declared.records.SetRecord.{SetRecord}
 use Rattle.format.specs.Bytes.{words_at}
 use Rattle.format.specs.Answers.{set_call, call_in, Before}
-use Rattle.lines.specs.Laid.{Wrote}
-use Rattle.lines.specs.Lines.{entries_line}
+use Rattle.replies.specs.Laid.{Wrote}
+use Rattle.replies.specs.Lines.{entries_line}
 use Rattle.replies.specs.Replies.{lent, wiped, stops_call, call_of}
 use Rattle.replies.specs.Replies.Laws.{Answered, Replied, on_store_lem}
 

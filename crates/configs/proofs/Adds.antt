@@ -17,13 +17,13 @@ use Rattle.layout.specs.Encode.{words_of}
 use Rattle.encoding.specs.Decide.{fits}
 use Rattle.encoding.proofs.DecideLaws.{true_fits}
 use Rattle.store.specs.Admit.{cleared}
-use Rattle.work.specs.Counted.{Outcome, done, standing, counting, too_much, count_of}
+use Rattle.store.specs.Counted.{Outcome, done, standing, counting, too_much, count_of}
 use Rattle.store.specs.Calls.{zeros, too_much_work, no_room}
 use Rattle.store.specs.declared.inner.admit.Admitted.TheVariants.{Ready as ready, Refused}
-use Rattle.interning.specs.Live.{Live, ready_live}
+use Rattle.contexts.specs.Live.{Live, ready_live}
 use Rattle.sets.specs.Config.{Config}
 use Rattle.sets.specs.Lists.{any}
-use Rattle.cases.specs.Bools.{bool?}
+use Rattle.words.specs.Bools.{bool?}
 use Rattle.sets.specs.Layout.{most_configs, config_at, config_count, flag}
 use Rattle.sets.specs.Sets.{Set, same_keys, held, with_configs, joined_all, Addition, add_to}
 use Rattle.sets.specs.Sets.Laws.{held_new}

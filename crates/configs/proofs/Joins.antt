@@ -11,13 +11,13 @@ use Rattle.layout.specs.Layout.{count as contexts}
 use Rattle.layout.specs.Decode.{store_of}
 use Rattle.layout.specs.Encode.{words_of}
 use Rattle.encoding.specs.Decide.{fits}
-use Rattle.work.specs.Counted.{Outcome, too_much, count_of}
+use Rattle.store.specs.Counted.{Outcome, too_much, count_of}
 use Rattle.store.specs.Calls.{context, Left, leaves, leaves_after, gives_after, zeros, too_much_work, no_room, refused as notMade}
 use Rattle.contexts.specs.MergeCall.Laws.{worked}
-use Rattle.interning.specs.Live.{Live, ready_live}
+use Rattle.contexts.specs.Live.{Live, ready_live}
 use Rattle.sets.specs.Config.{Config}
 use Rattle.sets.specs.Lists.{any}
-use Rattle.cases.specs.Bools.{bool?}
+use Rattle.words.specs.Bools.{bool?}
 use Rattle.sets.specs.Layout.{most_configs, set_words_length, config_at, config_count, flag_word}
 use Rattle.sets.specs.Sets.{Set, same_keys, with_configs, joined, joined_all, has_semantic, dips}
 use Rattle.sets.specs.Words.{flags_of, set_words, configs_in, set_of}

@@ -9,7 +9,7 @@ use Rattle.words.specs.Provenance.{mark_of}
 use Rattle.words.specs.Provenance.Laws.{mark_of_merged}
 use Rattle.stacks.specs.Forest.{mem}
 use Rattle.stacks.proofs.RulesLaws.{MergeRule}
-use Rattle.cases.specs.Numbers.{two}
+use Rattle.words.specs.Numbers.{two}
 use Rattle.arena.specs.Store.{Store, tree}
 use Rattle.arena.specs.Place.{merge_s}
 use Rattle.arena.proofs.Placed.{grew_length}
@@ -21,7 +21,7 @@ use Rattle.layout.specs.Encode.{words_of}
 use Rattle.encoding.specs.Decoded.{decoded}
 use Rattle.encoding.specs.Decide.{sound, fits}
 use Rattle.encoding.proofs.DecideLaws.{true_sound}
-use Rattle.work.specs.Counted.{counting, too_much, count_of}
+use Rattle.store.specs.Counted.{counting, too_much, count_of}
 use Rattle.store.specs.Calls.{context, Left, leaves_after, zeros}
 use Rattle.store.specs.Admit.{sound_goes, known_goes}
 use Rattle.contexts.specs.MergeCall.{merge_call}
@@ -29,7 +29,7 @@ use Rattle.contexts.specs.MergeCall.Laws.{merge_nested, merged_known}
 use Rattle.contexts.specs.Promises.{store_after, merge_sound_after, merge_stands, merge_figure}
 use Rattle.sets.specs.Config.{Config}
 use Rattle.sets.specs.Lists.{any, all}
-use Rattle.cases.specs.Bools.{bool?, never_both}
+use Rattle.words.specs.Bools.{bool?, never_both}
 use Rattle.sets.specs.Layout.{most_configs, set_words_length, config_at, config_count, flag_word, flag}
 use Rattle.sets.specs.Sets.{Set, empty_set, closed_set, key, same_keys, with_configs, joined, joined_all, Addition, add_to}
 use Rattle.sets.specs.Sets.Laws.{key_of_same, same_of_key, other_key, key_joined, held_new}

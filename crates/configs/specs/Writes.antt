@@ -1,7 +1,7 @@
 -- The words that code of this crate writes, and what they hold then. Nothing here has to be believed.
 use Rattle.std.specs.Prelude.{◌≡◌, refl, ◌≢◌, List, [], ◌∷◌, ℕ, suc, ◌<◌, ◌≤◌, ◌+◌, ◌*◌, length, get_or, set}
 use Rattle.std.proofs.Common.{◌∙◌, arith, length-set, get_or-set_same, get_or-set_other}
-use Rattle.cases.specs.Numbers.{three}
+use Rattle.words.specs.Numbers.{three}
 use Rattle.sets.specs.Config.{Config}
 use Rattle.sets.specs.Layout.{most_configs, config_words, first_config, set_words_length, fields, field, config_at, config_count, flag_word}
 use Rattle.sets.specs.Held.{reads, fields_config, config_agree}

@@ -1,3 +1,4 @@
 pub mod MergeCall
 pub mod Replies
 pub mod Promises
+pub use Rattle.interning.specs.Live

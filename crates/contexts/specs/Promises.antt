@@ -6,7 +6,7 @@ use Rattle.std.proofs.Math.Path.{refl, sym, ap}
 use Rattle.std.proofs.Common.{◌∙◌, arith}
 use Prim.Native.Nat.{ℕ, ◌+◌, ◌-◌, ◌<◌, ◌≤◌}
 use Rattle.std.proofs.Math.ListN.{length}
-use Rattle.cases.specs.Numbers.{below?}
+use Rattle.words.specs.Numbers.{below?}
 use Rattle.stacks.specs.Forest.{Forest, mem}
 use Rattle.stacks.specs.Canon.{Canon}
 use Rattle.stacks.specs.Merge.{merge_t}

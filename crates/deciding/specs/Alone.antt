@@ -2,10 +2,10 @@
 use Rattle.std.specs.Prelude.{◌≡◌, refl, true, false, List, ℕ, ◌<◌, ◌≤◌, ◌+◌, min, length}
 use Rattle.std.proofs.Common.{sym, ap, ◌∙◌, arith}
 use Rattle.std.proofs.Math.Decide.{dec_le}
-use Rattle.cases.specs.Numbers.{two}
+use Rattle.words.specs.Numbers.{two}
 use Rattle.words.specs.declared.names.Alternative.{Alternative}
-use Rattle.sets.specs.Layout.{most_configs, set_words_length, config_count}
-use Rattle.cases.specs.Bools.{never_both}
+use Rattle.groups.specs.Layout.{most_configs, set_words_length, config_count}
+use Rattle.words.specs.Bools.{never_both}
 use Rattle.groups.specs.Answers.{none, only, unique_alt, single_viable_alt}
 use Rattle.groups.specs.Sentences.{Unique}
 use Rattle.groups.proofs.Single.{says_none, unique_says, Served, viable_configs}

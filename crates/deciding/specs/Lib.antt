@@ -3,3 +3,6 @@ pub mod OneAlt
 pub mod Picked
 pub mod Alone
 pub mod Stops
+pub use Rattle.groups.specs.Answers
+pub use Rattle.groups.specs.Calls
+pub use Rattle.groups.specs.Reason

@@ -4,9 +4,9 @@ use Rattle.std.proofs.Common.{sym, ap, ap₂, ◌∙◌, arith, mul-le-mul_right
 use Rattle.std.proofs.Math.Path.{fun_ext}
 use Rattle.std.proofs.lemmas.List.{length-map}
 use Rattle.std.proofs.lemmas.Bool.{eqb-false, not-true}
-use Rattle.sets.specs.Config.{Config}
-use Rattle.sets.specs.Lists.{any, all}
-use Rattle.cases.specs.Bools.{bool?, bool_iff, both_true, and_left, and_right}
+use Rattle.groups.specs.Config.{Config}
+use Rattle.groups.specs.SetsLists.{any, all}
+use Rattle.words.specs.Bools.{bool?, bool_iff, both_true, and_left, and_right}
 use Rattle.groups.specs.Lists.{Any, All, which}
 use Rattle.groups.specs.Lists.Tests.{any_exact, all_exact}
 use Rattle.groups.specs.Groups.{together, firsts, subset, groups}

@@ -1,11 +1,11 @@
 -- A state that is listed, and configs in listed states. Nothing here has to be believed.
 use Rattle.std.specs.Prelude.{◌≡◌, refl, Bool, true, false, List, [], ◌∷◌, ℕ, zero, suc, ◌<◌, eqb, length, get_or}
 use Rattle.std.proofs.Common.{sym, arith, eq-eqb, ne_eqb}
-use Rattle.sets.specs.Config.{Config}
-use Rattle.sets.specs.Layout.{config_at, config_count}
-use Rattle.sets.specs.Lists.{any}
-use Rattle.cases.specs.Bools.{or_right, never_both, is_false}
-use Rattle.sets.specs.Listed.{all_at, at_all}
+use Rattle.groups.specs.Config.{Config}
+use Rattle.groups.specs.Layout.{config_at, config_count}
+use Rattle.groups.specs.SetsLists.{any}
+use Rattle.words.specs.Bools.{or_right, never_both, is_false}
+use Rattle.groups.specs.Listed.{all_at, at_all}
 use Rattle.groups.specs.Groups.{groups}
 use Rattle.groups.specs.Answers.{many, stopped, verdict}
 use Rattle.grouping.specs.Clash.{configs_of}

@@ -4,7 +4,7 @@ use Rattle.std.proofs.Common.{◌∙◌, arith}
 use Rattle.words.specs.Lent.{cleared_range}
 use Rattle.words.specs.Lent.Laws.{length_cleared_range, cleared_range_before, cleared_range_inside, cleared_range_after}
 use Rattle.layout.specs.Layout.{store_words, count, used, parent, state}
-use Rattle.cases.specs.Numbers.{below?}
+use Rattle.words.specs.Numbers.{below?}
 use Rattle.encoding.specs.Held.{Agree}
 use Rattle.encoding.specs.Writes.{length_put_counts, counts_other, counts_count, counts_used}
 use Rattle.encoding.specs.Cut.{cut}

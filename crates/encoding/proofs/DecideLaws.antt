@@ -5,7 +5,7 @@ use Rattle.std.proofs.lemmas.Bool.{false≢true}
 use Rattle.arena.specs.Store.{Node, end, dollar, push, Store, Found, at, nowhere, find}
 use Rattle.arena.proofs.Soundness.{Rise, Full, Sound}
 use Rattle.arena.specs.Kinds.{size}
-use Rattle.cases.specs.Bools.{and_left, and_right, both_true, is_false}
+use Rattle.words.specs.Bools.{and_left, and_right, both_true, is_false}
 use Rattle.arena.proofs.Below.{NodeBelow, StoreBelow}
 use Rattle.layout.specs.Layout.{store_words, most_contexts, stop}
 use Rattle.layout.specs.Decode.{store_of}

@@ -4,7 +4,7 @@ use Rattle.std.proofs.Common.{sym, ◌∙◌, ⊎_elim}
 use Rattle.std.proofs.Math.Path.{ap}
 use Rattle.std.proofs.Math.Logic.{inl, inr}
 use native.Mathlib.Omega.{arith}
-use Rattle.cases.specs.Numbers.{two}
+use Rattle.words.specs.Numbers.{two}
 use Rattle.arena.specs.Store.{Node, end, dollar, push, Store, node_at}
 use Rattle.arena.proofs.Soundness.{Rise, Full, Sound}
 use Rattle.arena.proofs.Trees.{node_new, node_old, node_sound, nodes_differ}

@@ -1,7 +1,7 @@
 -- What it is for words to hold a store, word by word; and the words that hold a store are determined by it. Nothing here has to be believed.
 use Rattle.std.specs.Prelude.{◌≡◌, refl, List, [], ◌∷◌, ℕ, ◌<◌, ◌≤◌, ◌+◌, ◌*◌, length, get_or}
 use Rattle.std.proofs.Common.{sym, ◌∙◌, arith, ext_get_or}
-use Rattle.cases.specs.Numbers.{two, below?}
+use Rattle.words.specs.Numbers.{two, below?}
 use Rattle.arena.specs.Store.{Node, end, dollar, push, Store}
 use Rattle.arena.specs.Kinds.{size}
 use Rattle.arena.specs.Room.{room, pool}

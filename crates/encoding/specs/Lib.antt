@@ -10,3 +10,14 @@ pub mod Cut
 pub mod Encoded
 pub mod Decoded
 pub mod Decide
+pub use Rattle.arena.specs.Place
+pub use Rattle.arena.specs.Store
+pub use Rattle.layout.specs.Ceilings
+pub use Rattle.layout.specs.Decode
+pub use Rattle.layout.specs.Encode
+pub use Rattle.layout.specs.Layout
+pub use Rattle.layout.specs.Sound
+pub use Rattle.words.specs.Bools
+pub use Rattle.words.specs.Names
+pub use Rattle.words.specs.Numbers
+pub use Rattle.words.specs.Provenance

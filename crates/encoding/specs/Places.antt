@@ -1,7 +1,7 @@
 -- Every place among a store's words is a count, a word of a record, a parent or a state. Nothing here has to be believed.
 use Rattle.std.specs.Prelude.{◌≡◌, ℕ, ◌<◌, ◌≤◌, ◌+◌, ◌-◌}
 use Rattle.std.proofs.Common.{sym, subst, arith}
-use Rattle.cases.specs.Numbers.{two, below?}
+use Rattle.words.specs.Numbers.{two, below?}
 use Rattle.layout.specs.Layout.{store_words}
 
 pub by_place : (P : ℕ → Type 0) → P 0 → P 1

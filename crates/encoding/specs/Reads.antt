@@ -1,7 +1,7 @@
 -- What sound words say of one record: its kind, and the words that go with that kind. Nothing here has to be believed.
 use Rattle.std.specs.Prelude.{◌≡◌, refl, ◌⊎◌, List, ℕ, zero, suc, ◌<◌, ◌≤◌, ◌+◌, ◌-◌}
 use Rattle.std.proofs.Common.{sym, ap, ◌∙◌, inl, inr, arith}
-use Rattle.cases.specs.Numbers.{two}
+use Rattle.words.specs.Numbers.{two}
 use Rattle.layout.specs.Layout.{stop, count, used, kind, first, second, parent, state}
 use Rattle.arena.specs.Kinds.{size}
 use Rattle.arena.proofs.KindsLaws.{room_many}

@@ -9,8 +9,8 @@ use Rattle.layout.specs.Listing.{listing}
 use Rattle.layout.specs.Listing.Laws.{Entries, listing_size}
 use Rattle.layout.specs.Decode.{node_in, store_of}
 use Rattle.layout.specs.Decode.Laws.{store_node, node_zero, node_one, node_many}
-use Rattle.encoding.specs.Reads.{kind?, array_entries, array_fits}
-use Rattle.store.specs.Asks.{Known}
+use Rattle.work.specs.Reads.{kind?, array_entries, array_fits}
+use Rattle.interning.specs.Asks.{Known}
 use Rattle.work.proofs.Heads.{head_state, head_parent}
 use Rattle.entries.specs.EntriesFrom.{rest, entry_listing}
 use Rattle.entries.specs.declared.pairs.Entry.{Entry}

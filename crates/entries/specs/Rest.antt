@@ -14,10 +14,10 @@ use Rattle.layout.specs.Scratch.{stack_parent, stack_state}
 use Rattle.layout.specs.Listing.{listing}
 use Rattle.layout.specs.Decode.{store_of}
 use Rattle.layout.specs.Ceilings.{Fits}
-use Rattle.encoding.specs.Encoded.{node_below}
+use Rattle.work.specs.Encoded.{node_below}
 use Rattle.index.specs.Records.{stack_node}
 use Rattle.index.specs.Writes.{put_entry}
-use Rattle.store.specs.Asks.{Known}
+use Rattle.interning.specs.Asks.{Known}
 use Rattle.interning.specs.Live.{Live, Pushed, GrewTo, live_sound, live_count, live_length}
 use Rattle.interning.specs.Interned.{More, Interns}
 use Rattle.work.proofs.Heads.{head_state, head_parent}

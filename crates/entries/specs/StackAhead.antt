@@ -1,7 +1,7 @@
 -- Entries on the stack ahead of more: what a merge has done so far. Nothing here has to be believed.
 use Rattle.std.specs.Prelude.{◌≡◌, refl, ℕ, zero, suc, ◌<◌, ◌≤◌, ◌+◌}
 use Rattle.std.proofs.Common.{sym, ap, ◌∙◌, arith}
-use Rattle.cases.specs.Numbers.{two}
+use Rattle.words.specs.Numbers.{two}
 use Rattle.arena.specs.Store.{Node}
 use Rattle.layout.specs.Layout.{stop}
 use Rattle.layout.specs.Listing.{listing}

@@ -1,7 +1,7 @@
 -- One entry more on the stack: it stays sound, below what comes, and ahead of it. Nothing here has to be believed.
 use Rattle.std.specs.Prelude.{◌≡◌, List, ℕ, suc, ◌<◌, ◌≤◌, ◌+◌, ◌*◌, length, get_or}
 use Rattle.std.proofs.Common.{sym, ap, ◌∙◌, arith}
-use Rattle.cases.specs.Numbers.{two}
+use Rattle.words.specs.Numbers.{two}
 use Rattle.arena.specs.Store.{Node}
 use Rattle.layout.specs.Layout.{scratch_words, stop}
 use Rattle.layout.specs.Scratch.{stack_parent, stack_state}

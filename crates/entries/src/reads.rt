@@ -3,7 +3,7 @@ ghost use Rattle.std.specs.Prelude.{◌≡◌, ◌<◌};
 ghost use Rattle.arena.specs.Store.{node_at};
 ghost use Rattle.arena.specs.Kinds.{size};
 ghost use Rattle.layout.specs.Decode.{store_of};
-ghost use Rattle.store.specs.Asks.{Known};
+ghost use Rattle.interning.specs.Asks.{Known};
 ghost use Rattle.entries.specs.Reading.{IsEntry};
 
 use crate::pairs::Entry;

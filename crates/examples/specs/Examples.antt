@@ -2,45 +2,45 @@
 -- Nothing here has to be believed.
 use Rattle.std.specs.Prelude.{◌≡◌, refl, true, false, ℕ}
 use mathlib.Core.List.{List, [], ◌∷◌, ◌++◌, flat_map}
-use Rattle.stacks.specs.Merge.{is_mark, wild, merge_e, merge_t}
-use Rattle.arena.specs.Store.{end, dollar, push, same, find, tree, tree_of, node_at}
-use Rattle.arena.specs.Place.{listed, intern, place_e, place, merge_s}
-use Rattle.arena.specs.Kinds.{size}
-use Rattle.arena.specs.Room.{pool, room}
-use Rattle.layout.specs.Layout.{blank, count, used, kind, first, second, parent, state}
-use Rattle.layout.specs.Listing.{listing}
-use Rattle.layout.specs.Decode.{node_from, node_in, store_in}
-use Rattle.layout.specs.Encode.{put_pool, fill, put_record, put_counts, put_node, written, words_of}
-use Rattle.encoding.specs.Decide.{same_words, rises, sound_store, fits, sound}
-use Rattle.store.specs.Checks.{unless}
-use Rattle.work.specs.Counted.{too_much, count_of, counting, counted, deep, step, recall, begins, made as merging, walk, before, and_then, interned, completed, keep}
-use Rattle.store.specs.Calls.{zeros, refusal, asked}
-use Rattle.interning.specs.SingletonCall.{single_s, singleton_checks, singleton_call}
-use Rattle.contexts.specs.MergeCall.{merge_checks, merge_call}
-use Rattle.words.specs.Provenance.{id_of, mark_of, merged_marks}
-use Rattle.sets.specs.Config.{Config}
-use Rattle.sets.specs.Lists.{any, all}
-use Rattle.sets.specs.Layout.{fields, field, config_at, config_count, flag_word, flag}
-use Rattle.sets.specs.Sets.{has_semantic, dips, key, same_keys, held, joined, joined_all, add_to}
-use Rattle.sets.specs.Words.{bit, flags_of, set_words, configs_in, distinct, good_set, sound_set}
-use Rattle.sets.specs.Calls.{lent_lengths, lent_checks, add_work, add_checks, fresh_set_call, add_call, close_call}
-use Rattle.sets.specs.Calls.{refusal as setRefusal}
-use Rattle.groups.specs.Lists.{which}
-use Rattle.groups.specs.Groups.{insert, rising, alts_of, together, firsts, subset, groups}
-use Rattle.groups.specs.Answers.{none, only, many, agree, smallest, single_viable_alt, unique_alt, stopped, just_one}
-use Rattle.groups.specs.Answers.{verdict as verdictOf}
-use Rattle.groups.specs.Reason.{stop, pick, reason}
-use Rattle.outputs.specs.Outputs.{padded}
-use Rattle.verdicts.specs.Calls.{VerdictReply, summary, read_refusal, read_call}
-use Rattle.reasons.specs.Calls.{clashing, reason_words, why_call}
-use Rattle.figures.specs.Calls.{figures_call}
-use Rattle.format.specs.Bytes.{u16_at, u32_at, u64_at, words_at}
-use Rattle.format.specs.Payloads.{payloads, payload_of, accepts}
-use Rattle.format.specs.Format.{Record, singleton, merge, new_set, add, stops, verdict, show, close, why, found, ended, malformed, config_from, payload_at, record_at, read_at}
-use Rattle.lines.specs.Decimal.{digits, decimal}
-use Rattle.lines.specs.Lines.{context_line, new_set_line, added_line, stops_line, alternative_bytes, verdict_bytes, figures_line, closed_line, refusal_line, entries_bytes}
-use Rattle.lines.specs.Lines.{entries_line, end_line, spaced_all, reason_line}
-use Rattle.replies.specs.Replies.{Lent, wiped, line_of, set_line_of, new_set_call, held_stops, stops_call, verdict_line_of, call_of}
+use Rattle.steps.specs.Merge.{is_mark, wild, merge_e, merge_t}
+use Rattle.steps.specs.Store.{end, dollar, push, same, find, tree, tree_of, node_at}
+use Rattle.steps.specs.Place.{listed, intern, place_e, place, merge_s}
+use Rattle.steps.specs.Kinds.{size}
+use Rattle.steps.specs.Room.{pool, room}
+use Rattle.steps.specs.Layout.{blank, count, used, kind, first, second, parent, state}
+use Rattle.steps.specs.Listing.{listing}
+use Rattle.steps.specs.Decode.{node_from, node_in, store_in}
+use Rattle.steps.specs.Encode.{put_pool, fill, put_record, put_counts, put_node, written, words_of}
+use Rattle.steps.specs.Decide.{same_words, rises, sound_store, fits, sound}
+use Rattle.steps.specs.Checks.{unless}
+use Rattle.steps.specs.Counted.{too_much, count_of, counting, counted, deep, step, recall, begins, made as merging, walk, before, and_then, interned, completed, keep}
+use Rattle.steps.specs.Calls.{zeros, refusal, asked}
+use Rattle.steps.specs.SingletonCall.{single_s, singleton_checks, singleton_call}
+use Rattle.steps.specs.MergeCall.{merge_checks, merge_call}
+use Rattle.steps.specs.Provenance.{id_of, mark_of, merged_marks}
+use Rattle.steps.specs.Config.{Config}
+use Rattle.steps.specs.Lists.{any, all}
+use Rattle.steps.specs.SetsLayout.{fields, field, config_at, config_count, flag_word, flag}
+use Rattle.steps.specs.Sets.{has_semantic, dips, key, same_keys, held, joined, joined_all, add_to}
+use Rattle.steps.specs.Words.{bit, flags_of, set_words, configs_in, distinct, good_set, sound_set}
+use Rattle.steps.specs.SetsCalls.{lent_lengths, lent_checks, add_work, add_checks, fresh_set_call, add_call, close_call}
+use Rattle.steps.specs.SetsCalls.{refusal as setRefusal}
+use Rattle.steps.specs.GroupsLists.{which}
+use Rattle.steps.specs.Groups.{insert, rising, alts_of, together, firsts, subset, groups}
+use Rattle.steps.specs.GroupsAnswers.{none, only, many, agree, smallest, single_viable_alt, unique_alt, stopped, just_one}
+use Rattle.steps.specs.GroupsAnswers.{verdict as verdictOf}
+use Rattle.steps.specs.Reason.{stop, pick, reason}
+use Rattle.steps.specs.Outputs.{padded}
+use Rattle.steps.specs.VerdictsCalls.{VerdictReply, summary, read_refusal, read_call}
+use Rattle.steps.specs.ReasonsCalls.{clashing, reason_words, why_call}
+use Rattle.steps.specs.FiguresCalls.{figures_call}
+use Rattle.steps.specs.Bytes.{u16_at, u32_at, u64_at, words_at}
+use Rattle.steps.specs.Payloads.{payloads, payload_of, accepts}
+use Rattle.steps.specs.Format.{Record, singleton, merge, new_set, add, stops, verdict, show, close, why, found, ended, malformed, config_from, payload_at, record_at, read_at}
+use Rattle.steps.specs.Decimal.{digits, decimal}
+use Rattle.steps.specs.Lines.{context_line, new_set_line, added_line, stops_line, alternative_bytes, verdict_bytes, figures_line, closed_line, refusal_line, entries_bytes}
+use Rattle.steps.specs.Lines.{entries_line, end_line, spaced_all, reason_line}
+use Rattle.steps.specs.Replies.{Lent, wiped, line_of, set_line_of, new_set_call, held_stops, stops_call, verdict_line_of, call_of}
 use Rattle.steps.specs.Steps.{fresh, reading_step, step_of, run_from, run_of, script_replies}
 
 -- the definitions that the examples compute, by layer, under one name

@@ -1,9 +1,9 @@
 -- To believe: the call that answers all figures of a set at once, as document 01's `V` line has them, with the refusals of the verdict in their order.
 use Rattle.std.specs.Prelude.{List, [], ℕ, length}
-use Rattle.sets.specs.Config.{Config}
-use Rattle.sets.specs.Words.{set_of}
-use Rattle.groups.specs.Groups.{groups}
-use Rattle.groups.specs.Answers.{unique_alt, single_viable_alt, verdict}
+use Rattle.setcheck.specs.Config.{Config}
+use Rattle.setcheck.specs.Words.{set_of}
+use Rattle.grouping.specs.Groups.{groups}
+use Rattle.grouping.specs.Answers.{unique_alt, single_viable_alt, verdict}
 use Rattle.verdicts.specs.Calls.{Summary, VerdictLeft, summary, read_call, too_many_stops}
 
 -- "`V` subset count, unique alternative, viable alternative, verdict"

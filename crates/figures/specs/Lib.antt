@@ -3,3 +3,5 @@ pub mod Calls
 pub mod Replies
 pub mod Told
 pub mod Same
+pub use Rattle.verdicts.specs.Calls as VerdictsCalls
+pub use Rattle.verdicts.specs.Outputs

@@ -8,11 +8,11 @@ use Rattle.words.specs.Refusals.{number}
 use Rattle.store.specs.Calls.{zeros, refused as storeRefused}
 use Rattle.store.proofs.Told.{number_tells}
 use Rattle.store.specs.Checks.Laws.{Clear, passed_clear, clear_passed}
-use Rattle.sets.specs.Config.{Config}
-use Rattle.sets.specs.Words.{set_of}
-use Rattle.sets.specs.Calls.{lent_checks}
-use Rattle.groups.specs.Answers.{unique_alt, single_viable_alt, verdict}
-use Rattle.outputs.specs.Outputs.{subsets_length, padded, subsets_words}
+use Rattle.setcheck.specs.Config.{Config}
+use Rattle.setcheck.specs.Words.{set_of}
+use Rattle.setcheck.specs.Calls.{lent_checks}
+use Rattle.grouping.specs.Answers.{unique_alt, single_viable_alt, verdict}
+use Rattle.verdicts.specs.Outputs.{subsets_length, padded, subsets_words}
 use Rattle.deciding.specs.OneAlt.Laws.{one_tells}
 use Rattle.verdicts.specs.Calls.{Summary, VerdictReply, refused, says, alternative, written, summary, VerdictLeft, verdict_left, read_refusal, read_checks, read_call, too_many_stops}
 use Rattle.verdicts.specs.Calls.{conflicting_alt_subsets_call, unique_alt_call, single_viable_alt_call, verdict_call}
@@ -84,7 +84,7 @@ module _ (w v z stops : List ℕ) where
       viable = answers (alternative (single_viable_alt cs)) ∙ ap (λ (x : Summary). alternative x.viable) (sym is_figures);
       verdict =
           ap (λ (l : VerdictLeft). l.reply)
-          (clear_passed (read_refusal z []) (verdict_left (says (Rattle.groups.specs.Answers.verdict stops cs)) zeros []) (read_checks 0 (too_many_stops stops) w v z []) passed)
+          (clear_passed (read_refusal z []) (verdict_left (says (Rattle.grouping.specs.Answers.verdict stops cs)) zeros []) (read_checks 0 (too_many_stops stops) w v z []) passed)
           ∙ ap (λ (x : Summary). says x.verdict) (sym is_figures);
     }
 

@@ -1,8 +1,8 @@
 -- The figures together, from each by itself. Nothing here has to be believed.
 use Rattle.std.specs.Prelude.{◌≡◌, refl, Bool, List, ℕ, length}
-use Rattle.sets.specs.Config.{Config}
-use Rattle.groups.specs.Groups.{groups}
-use Rattle.groups.specs.Answers.{Answer, unique_alt, single_viable_alt, verdict}
+use Rattle.setcheck.specs.Config.{Config}
+use Rattle.grouping.specs.Groups.{groups}
+use Rattle.grouping.specs.Answers.{Answer, unique_alt, single_viable_alt, verdict}
 use Rattle.grouping.specs.Led.{Lent}
 use Rattle.deciding.specs.Alone.{Counted}
 use Rattle.verdicts.specs.Calls.{Summary}

@@ -1,7 +1,7 @@
 -- Two answers that satisfy the decoder's contract for the same bytes are equal, case and values. Nothing here has to be believed.
 use Rattle.std.specs.Prelude.{◌≡◌, refl, List, ℕ, ◌*◌, ◌-◌, length}
 use Rattle.std.proofs.Common.{sym, ap, ◌∙◌, arith}
-use Rattle.sets.specs.Config.{Config}
+use Rattle.setcheck.specs.Config.{Config}
 use Rattle.setcheck.specs.declared.config.AtnConfig.{AtnConfig}
 use Rattle.format.specs.declared.records.Record.{Record}
 use Rattle.format.specs.declared.records.Record.TheVariants.{Singleton, Merge, Show, Stops, OnSet}

@@ -1,7 +1,7 @@
 -- To believe: the format of a script. "A record: payload length (u16), kind (u16), payload, little-endian."
 pub mod Laws
 use Rattle.std.specs.Prelude.{Bool, true, false, List, ℕ, ◌+◌, ◌-◌, ◌/◌, eqb, leb, ltb, length, get_or}
-use Rattle.sets.specs.Config.{Config, config}
+use Rattle.setcheck.specs.Config.{Config, config}
 use Rattle.format.specs.Bytes.{u16_at, u32_at, u64_at, words_at}
 use Rattle.format.specs.Payloads.{payload_of, accepts}
 

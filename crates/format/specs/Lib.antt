@@ -7,3 +7,6 @@ pub mod Format
 pub mod Whole
 pub mod Answers
 pub mod Determined
+pub use Rattle.setcheck.specs.Decode
+pub use Rattle.setcheck.specs.Store
+pub use Rattle.setcheck.specs.StoreCalls as Calls

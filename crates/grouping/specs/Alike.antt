@@ -3,8 +3,8 @@ use Rattle.std.specs.Prelude.{◌≡◌, Bool, true, List, [], ◌∷◌, ℕ, �
 use Rattle.std.proofs.Common.{sym, ◌∙◌, subst, arith}
 use Rattle.encoding.specs.Decide.{same_words}
 use Rattle.encoding.proofs.DecideLaws.{same_words_lem, words_same}
-use Rattle.sets.specs.Config.{Config}
-use Rattle.sets.specs.Layout.{config_at}
+use Rattle.groups.specs.Config.{Config}
+use Rattle.groups.specs.Layout.{config_at}
 use Rattle.setcheck.specs.Keys.{weighed}
 use Rattle.groups.proofs.Firsts.{Likeness}
 use Rattle.grouping.specs.declared.inner.traits.Alike.{Alike}

@@ -1,11 +1,11 @@
 -- Some subset has two or more alternatives exactly if a config has another alternative than the first of its subset. Nothing here has to be believed.
 use Rattle.std.specs.Prelude.{◌≡◌, true, false, List, ℕ, ◌<◌, ◌≤◌, ◌+◌, get_or}
 use Rattle.std.proofs.Common.{sym, ap, ◌∙◌, arith, below_more}
-use Rattle.sets.specs.Config.{Config}
-use Rattle.sets.specs.Layout.{config_at, config_count}
-use Rattle.sets.specs.Lists.{any}
-use Rattle.cases.specs.Bools.{is_false}
-use Rattle.sets.specs.Words.{configs_in}
+use Rattle.groups.specs.Config.{Config}
+use Rattle.groups.specs.Layout.{config_at, config_count}
+use Rattle.groups.specs.SetsLists.{any}
+use Rattle.words.specs.Bools.{is_false}
+use Rattle.groups.specs.Words.{configs_in}
 use Rattle.groups.specs.Lists.{Any}
 use Rattle.groups.specs.Groups.{groups}
 use Rattle.groups.specs.Answers.{many}

@@ -1,10 +1,10 @@
 -- The walk along a chain for the last config that is alike. Nothing here has to be believed.
 use Rattle.std.specs.Prelude.{◌≡◌, Bool, true, false, List, ℕ, ◌<◌, ◌+◌, ◌-◌, get_or}
 use Rattle.std.proofs.Common.{sym, ap, ◌∙◌, arith}
-use Rattle.arena.specs.Store.{at, nowhere}
+use Rattle.encoding.specs.Store.{at, nowhere}
 use Rattle.encoding.specs.Decide.{same_words}
-use Rattle.sets.specs.Layout.{most_configs, config_at}
-use Rattle.sets.specs.Chains.{last, Going, going_begin, going_hit, going_on, going_end}
+use Rattle.groups.specs.Layout.{most_configs, config_at}
+use Rattle.groups.specs.Chains.{last, Going, going_begin, going_hit, going_on, going_end}
 use Rattle.setcheck.specs.Keys.{key_heads, key_links, key_bucket}
 use Rattle.grouping.specs.Alike.{traits_by, alike_of, alike_at, alike_true}
 use Rattle.grouping.specs.Led.{bucket_at, Led}

@@ -4,12 +4,12 @@ use Rattle.std.proofs.Common.{sym, ◌∙◌, arith, below_more}
 use Rattle.std.specs.Bool.{beq}
 use Rattle.std.proofs.lemmas.Bool.{false≢true}
 use Rattle.grouping.specs.Marks.{picks, each_picked, leader_at, mark_at, Marked}
-use Rattle.cases.specs.Bools.{is_false, never_both}
-use Rattle.sets.specs.Config.{Config}
-use Rattle.sets.specs.Layout.{config_at, config_count}
-use Rattle.sets.specs.Lists.{any, all}
-use Rattle.sets.specs.Words.{configs_in}
-use Rattle.sets.specs.Listed.{all_at, at_all}
+use Rattle.words.specs.Bools.{is_false, never_both}
+use Rattle.groups.specs.Config.{Config}
+use Rattle.groups.specs.Layout.{config_at, config_count}
+use Rattle.groups.specs.SetsLists.{any, all}
+use Rattle.groups.specs.Words.{configs_in}
+use Rattle.groups.specs.Listed.{all_at, at_all}
 use Rattle.grouping.specs.Alike.{alike_of}
 use Rattle.grouping.specs.Led.{Led}
 use Rattle.grouping.specs.Marks.Laws.{mark_tells}

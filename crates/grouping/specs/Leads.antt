@@ -1,10 +1,10 @@
 -- The first and the next of the numbers that are alike to a number. Nothing here has to be believed.
 use Rattle.std.specs.Prelude.{◌≡◌, Bool, true, false, ℕ, zero, suc, ◌<◌, ◌≤◌}
 use Rattle.std.proofs.Common.{sym, ◌∙◌, arith}
-use Rattle.cases.specs.Numbers.{three, two}
-use Rattle.arena.specs.Store.{at, nowhere}
-use Rattle.cases.specs.Bools.{bool?, never_both, is_false}
-use Rattle.sets.specs.Chains.{last, last_here, last_before, last_found, last_none}
+use Rattle.words.specs.Numbers.{three, two}
+use Rattle.encoding.specs.Store.{at, nowhere}
+use Rattle.words.specs.Bools.{bool?, never_both, is_false}
+use Rattle.groups.specs.Chains.{last, last_here, last_before, last_found, last_none}
 
 -- being alike
 pub record Kin (t : ℕ → ℕ → Bool) : Type 0 where

@@ -1,9 +1,9 @@
 -- What stands in the scratch of the first n configs: their chains, and for each the first and the next that is alike. Nothing here has to be believed.
 pub mod Laws
 use Rattle.std.specs.Prelude.{◌≡◌, List, ℕ, ◌<◌, ◌≤◌, ◌+◌, length, get_or, set}
-use Rattle.layout.specs.Layout.{scratch_words}
-use Rattle.sets.specs.Layout.{most_configs, set_words_length, config_at, config_count}
-use Rattle.sets.specs.Chains.{Chained}
+use Rattle.encoding.specs.Layout.{scratch_words}
+use Rattle.groups.specs.Layout.{most_configs, set_words_length, config_at, config_count}
+use Rattle.groups.specs.Chains.{Chained}
 use Rattle.setcheck.specs.Keys.{key_heads, key_links, key_bucket}
 use Rattle.grouping.specs.Alike.{traits_by, alike_at}
 use Rattle.grouping.specs.Leads.{FirstAlike, Next}

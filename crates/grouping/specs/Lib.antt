@@ -9,3 +9,5 @@ pub mod Step
 pub mod Clash
 pub mod Marks
 pub mod FirstMarked
+pub use Rattle.groups.specs.Answers
+pub use Rattle.groups.specs.Groups

@@ -1,10 +1,10 @@
 -- First configs that are marked by a config of their kind. Nothing here has to be believed.
 pub mod Laws
 use Rattle.std.specs.Prelude.{◌≡◌, ◌⊎◌, Bool, true, false, ◌&&◌, not, List, ℕ, ◌<◌, ◌≤◌, ◌+◌, eqb, length, get_or, set}
-use Rattle.layout.specs.Layout.{scratch_words}
-use Rattle.sets.specs.Config.{Config}
-use Rattle.sets.specs.Layout.{config_at, config_count}
-use Rattle.sets.specs.Lists.{any, all}
+use Rattle.encoding.specs.Layout.{scratch_words}
+use Rattle.groups.specs.Config.{Config}
+use Rattle.groups.specs.Layout.{config_at, config_count}
+use Rattle.groups.specs.SetsLists.{any, all}
 use Rattle.grouping.specs.Alike.{alike_of}
 use Rattle.grouping.specs.Led.{leaders_at, marks_at, Lent}
 use Rattle.grouping.specs.declared.inner.traits.Alike.{Alike}

@@ -3,10 +3,10 @@ use Rattle.std.proofs.Math.Logic.{inl, inr, ⊎_elim}
 use Rattle.std.specs.Prelude.{◌↔◌, List, [], ◌∷◌, ◌++◌}
 use Prim.Native.Nat.{ℕ, zero, suc, ◌<◌}
 use native.Mathlib.Omega.{arith}
-use Rattle.cases.specs.Numbers.{two}
-use Rattle.sets.specs.Config.{Config}
-use Rattle.sets.specs.Layout.{config_at}
-use Rattle.sets.specs.Words.{configs_in}
+use Rattle.words.specs.Numbers.{two}
+use Rattle.groups.specs.Config.{Config}
+use Rattle.groups.specs.Layout.{config_at}
+use Rattle.groups.specs.Words.{configs_in}
 use Rattle.groups.specs.Lists.{Any, All}
 use Rattle.groups.proofs.Last.{some_last}
 

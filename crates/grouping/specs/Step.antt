@@ -3,12 +3,12 @@ use Rattle.std.specs.Prelude.{◌≡◌, refl, List, ℕ, suc, ◌<◌, ◌≤�
 use Rattle.std.proofs.Common.{sym, ap, ◌∙◌, arith, add-one}
 use Rattle.words.specs.Lent.{cleared_range}
 use Rattle.words.specs.Lent.Laws.{length_cleared_range, cleared_range_inside}
-use Rattle.arena.specs.Store.{Found, at, nowhere}
-use Rattle.layout.specs.Layout.{scratch_words}
-use Rattle.sets.specs.Layout.{most_configs, config_at, config_count}
-use Rattle.sets.specs.Words.{configs_in}
-use Rattle.sets.specs.Listed.{configs_length}
-use Rattle.sets.specs.Chains.{last, linked, linked_length}
+use Rattle.encoding.specs.Store.{Found, at, nowhere}
+use Rattle.encoding.specs.Layout.{scratch_words}
+use Rattle.groups.specs.Layout.{most_configs, config_at, config_count}
+use Rattle.groups.specs.Words.{configs_in}
+use Rattle.groups.specs.Listed.{configs_length}
+use Rattle.groups.specs.Chains.{last, linked, linked_length}
 use Rattle.setcheck.specs.Keys.{key_heads, key_links, key_bucket, place_of}
 use Rattle.setcheck.specs.declared.inner.keys.KeyPlace.{KeyPlace}
 use Rattle.setcheck.specs.declared.inner.keys.KeyPlace.TheVariants.{At, New}

@@ -2,8 +2,8 @@
 use Rattle.std.specs.Prelude.{◌≡◌, true, [], ◌∷◌, ℕ, eqb}
 use Rattle.std.proofs.Common.{sym, ap, eqb-true, eq-eqb}
 use Rattle.std.proofs.Math.Path.{fun_ext}
-use Rattle.sets.specs.Config.{Config}
-use Rattle.cases.specs.Bools.{bool_iff}
+use Rattle.groups.specs.Config.{Config}
+use Rattle.words.specs.Bools.{bool_iff}
 use Rattle.groups.specs.Groups.{together}
 use Rattle.groups.specs.Sentences.{AtPlace}
 use Rattle.groups.proofs.Firsts.{together_true, true_together}

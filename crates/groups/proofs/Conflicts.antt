@@ -2,7 +2,7 @@
 use Rattle.std.specs.Prelude.{◌≡◌, refl, ◌⊎◌, ◌↔◌, Bool, true, ℕ, ◌<◌, ◌≤◌, length}
 use Rattle.std.proofs.Common.{sym, ◌∙◌, subst, inl, inr, ⊎_elim, arith, ltb-true, lt-ltb}
 use mathlib.Core.List.{List, [], ◌∷◌, ◌++◌, flat_map}
-use Rattle.cases.specs.Numbers.{two}
+use Rattle.sets.specs.Numbers.{two}
 use Rattle.sets.specs.Config.{Config}
 use Rattle.sets.specs.Lists.{any}
 use Rattle.groups.specs.Lists.{Any, All, In, Rising, which}

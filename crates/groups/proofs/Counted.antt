@@ -7,9 +7,9 @@ use Prim.Native.Nat.{ℕ, suc, ◌<◌, ◌≤◌, ◌*◌}
 use Rattle.std.proofs.Math.ListN.{length}
 use Rattle.std.proofs.lemmas.List.{length-map}
 use Rattle.std.proofs.lemmas.Bool.{not-true}
-use Rattle.cases.specs.Numbers.{three}
+use Rattle.sets.specs.Numbers.{three}
 use Rattle.sets.specs.Config.{Config}
-use Rattle.cases.specs.Bools.{never_both, is_false, bool_iff, both_true}
+use Rattle.sets.specs.Bools.{never_both, is_false, bool_iff, both_true}
 use Rattle.groups.specs.Lists.{Any, All, In, Pairwise, Rising, which}
 use Rattle.groups.specs.Lists.Laws.{some_map, some_in, in_some, every_map, every_in, in_every, every_of, pairwise_made, rising_unique}
 use Rattle.groups.specs.Lists.Tests.{and_true, pairwise_which}

@@ -5,7 +5,7 @@ use mathlib.Core.List.{List, [], flat_map}
 use Rattle.std.proofs.lemmas.Bool.{not-true}
 use Rattle.sets.specs.Config.{Config}
 use Rattle.sets.specs.Lists.{any, all}
-use Rattle.cases.specs.Bools.{never_both, is_false, both_true, or_right}
+use Rattle.sets.specs.Bools.{never_both, is_false, both_true, or_right}
 use Rattle.groups.specs.Lists.{In, which}
 use Rattle.groups.specs.Lists.Laws.{every_map}
 use Rattle.groups.specs.Lists.Tests.{and_true, or_true, true_or_left, any_exact, all_exact, every_passes}

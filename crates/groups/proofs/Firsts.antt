@@ -6,7 +6,7 @@ use Rattle.std.proofs.Math.Logic.{inl, inr, ⊎_elim}
 use mathlib.Core.List.{List, [], ◌∷◌}
 use borrow.Author.Tests.{eqb-true, eq-eqb, not-true}
 use Rattle.sets.specs.Config.{Config}
-use Rattle.cases.specs.Bools.{bool?, never_both, bool_iff, both_true}
+use Rattle.sets.specs.Bools.{bool?, never_both, bool_iff, both_true}
 use Rattle.groups.specs.Lists.{Any, All, Pairwise, Before, which}
 use Rattle.groups.specs.Lists.Laws.{some_map, some_in, in_some, every_map, every_in, in_every, every_of}
 use Rattle.groups.specs.Lists.Tests.{and_true, every_which, pairwise_which, which_pass, which_some, some_which}

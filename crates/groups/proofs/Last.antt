@@ -5,7 +5,7 @@ use Rattle.std.proofs.Common.{◌∙◌, inl, inr, ⊎_elim}
 use Rattle.std.proofs.Math.Bool.{true}
 use mathlib.Core.List.{List, [], ◌∷◌, ◌++◌}
 use Rattle.sets.specs.Lists.{any}
-use Rattle.cases.specs.Bools.{bool?, either, neither_left, neither_right}
+use Rattle.sets.specs.Bools.{bool?, either, neither_left, neither_right}
 use Rattle.sets.specs.Config.{Config}
 use Rattle.groups.specs.Lists.{Any, which}
 use Rattle.groups.specs.Lists.Laws.{rising_unique}

@@ -9,7 +9,7 @@ use native.Mathlib.Omega.{arith}
 use Rattle.std.proofs.Math.ListN.{length}
 use Rattle.std.proofs.lemmas.Bool.{not-true}
 use Rattle.sets.specs.Config.{Config}
-use Rattle.cases.specs.Bools.{bool?, never_both, is_false}
+use Rattle.sets.specs.Bools.{bool?, never_both, is_false}
 use Rattle.groups.specs.Lists.{All, which}
 use Rattle.groups.specs.Lists.Laws.{every_map}
 use Rattle.groups.specs.Lists.Tests.{which_yes, which_no, which_pass}

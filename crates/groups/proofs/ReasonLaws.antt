@@ -7,7 +7,7 @@ use Rattle.std.proofs.Math.Logic.{inl, inr}
 use Rattle.std.proofs.Math.Bool.{true, false}
 use Rattle.std.proofs.lemmas.Bool.{false≢true}
 use mathlib.Core.List.{List, [], ◌∷◌}
-use Rattle.cases.specs.Bools.{bool?, is_false, never_both}
+use Rattle.sets.specs.Bools.{bool?, is_false, never_both}
 use Rattle.sets.specs.Config.{Config}
 use Rattle.sets.specs.Lists.{any}
 use Rattle.groups.specs.Lists.{All, In}

@@ -8,7 +8,7 @@ use mathlib.Core.List.{List, [], ◌∷◌, map, flat_map}
 use Rattle.std.proofs.Math.Dec.{eqb, ltb}
 use Rattle.sets.specs.Config.{Config}
 use Rattle.sets.specs.Lists.{any, all}
-use Rattle.cases.specs.Bools.{bool?, bool_iff}
+use Rattle.sets.specs.Bools.{bool?, bool_iff}
 use Rattle.groups.specs.Lists.{Any, All, which}
 use Rattle.groups.specs.Lists.Tests.{which_yes, which_no}
 use Rattle.groups.specs.Groups.{Group, rising, alts_of, together, firsts, subset, groups}

@@ -3,7 +3,7 @@ use Rattle.std.specs.Prelude.{◌≡◌, ◌⊎◌, ◌↔◌, Bool, true, List,
 use Rattle.std.proofs.Common.{sym, ◌∙◌, subst, inl, inr, ⊎_elim, arith}
 use Rattle.std.proofs.lemmas.List.{length-map}
 use borrow.Author.Tests.{lt-ltb, le-ltb, eq-eqb, ne_eqb}
-use Rattle.cases.specs.Numbers.{three}
+use Rattle.sets.specs.Numbers.{three}
 use Rattle.sets.specs.Config.{Config}
 use Rattle.groups.specs.Lists.{Any, All, In, Rising, which}
 use Rattle.groups.specs.Lists.Laws.{every_map, some_made, made_some}

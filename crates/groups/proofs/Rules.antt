@@ -2,7 +2,7 @@
 use Rattle.std.specs.Prelude.{◌≡◌, refl, ◌↔◌, Bool, true, false, List, ℕ}
 use Rattle.std.proofs.Common.{sym, ap, ◌∙◌}
 use Rattle.sets.specs.Config.{Config}
-use Rattle.cases.specs.Bools.{never_both}
+use Rattle.sets.specs.Bools.{never_both}
 use Rattle.groups.specs.Lists.{Any, In, Before, Rising, which}
 use Rattle.groups.specs.Lists.Laws.{some_map, some_in, in_some, every_in, every_of, pairwise_map, pairwise_both, before_map, before_asym}
 use Rattle.groups.specs.Lists.Laws.{sorted_unique, rising_unique, some_made, made_some, every_made, pairwise_made}

@@ -3,7 +3,7 @@ use Rattle.std.specs.Prelude.{◌≡◌, refl, ◌↔◌, true, false, List, [],
 use Rattle.std.proofs.Common.{sym, ap, ◌∙◌, subst, inl, ⊎_elim, arith, eqb-true, eq-eqb}
 use Rattle.sets.specs.Config.{Config}
 use Rattle.sets.specs.Lists.{all}
-use Rattle.cases.specs.Bools.{bool?}
+use Rattle.sets.specs.Bools.{bool?}
 use Rattle.groups.specs.Lists.{Any, All, In, Rising}
 use Rattle.groups.specs.Lists.Laws.{some_map, some_in, in_some, every_in, in_every, every_map, every_made, made_every, some_made, made_some}
 use Rattle.groups.specs.Lists.Tests.{all_exact}

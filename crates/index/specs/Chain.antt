@@ -2,7 +2,7 @@
 -- Nothing here has to be believed.
 use Rattle.std.specs.Prelude.{◌≡◌, refl, true, false, [], ◌∷◌, ℕ, zero, suc, ◌<◌, ◌≤◌, ◌-◌, eqb, length}
 use Rattle.std.proofs.Common.{sym, ap, ◌∙◌, arith, eq-eqb, ne_eqb}
-use Rattle.cases.specs.Numbers.{two}
+use Rattle.words.specs.Numbers.{two}
 use Rattle.arena.specs.Store.{Node, Store, node_at, same, find, at, nowhere}
 use Rattle.arena.proofs.Soundness.{Sound}
 use Rattle.arena.proofs.Trees.{same?, same_true, find_new, find_old}

@@ -4,7 +4,7 @@ use Rattle.std.proofs.Common.{sym, ap, ◌∙◌, add-one}
 use native.Mathlib.Omega.{arith}
 use Rattle.std.proofs.Math.ListN.{length, set, length-set}
 use Rattle.std.proofs.Math.Seq.{get_or-set_same, get_or-set_other}
-use Rattle.cases.specs.Numbers.{two}
+use Rattle.words.specs.Numbers.{two}
 use Rattle.words.specs.Lent.{cleared_range}
 use Rattle.words.specs.Lent.Laws.{length_cleared_range, cleared_range_inside}
 use Rattle.arena.specs.Store.{Node, Store}

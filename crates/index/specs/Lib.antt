@@ -11,3 +11,6 @@ pub mod Same
 pub mod Search
 pub mod Grow
 pub mod Load
+pub use Rattle.layout.specs.Decode
+pub use Rattle.layout.specs.Encode
+pub use Rattle.layout.specs.Layout

@@ -1,7 +1,7 @@
 -- Entries copied to the stack one at a time, and what the stack then holds. Nothing here has to be believed.
 use Rattle.std.specs.Prelude.{◌≡◌, refl, List, ℕ, suc, ◌<◌, ◌≤◌, ◌+◌, ◌-◌, length}
 use Rattle.std.proofs.Common.{sym, ap, ◌∙◌, arith}
-use Rattle.cases.specs.Numbers.{two}
+use Rattle.words.specs.Numbers.{two}
 use Rattle.layout.specs.Layout.{scratch_words, parent, state}
 use Rattle.layout.specs.Scratch.{stack_parent, stack_state}
 use Rattle.layout.specs.Listing.{listing}

@@ -1,7 +1,7 @@
 -- The oldest k contexts of a store. Nothing here has to be believed.
 use Rattle.std.specs.Prelude.{◌≡◌, refl, true, false, [], ◌∷◌, ℕ, suc, ◌<◌, ◌≤◌, ltb, length}
 use Rattle.std.proofs.Common.{sym, arith, lt-ltb, le-ltb}
-use Rattle.cases.specs.Numbers.{two}
+use Rattle.words.specs.Numbers.{two}
 use Rattle.arena.specs.Store.{Node, Store, node_at}
 use Rattle.arena.proofs.Soundness.{Sound}
 use Rattle.arena.proofs.Trees.{node_new, node_old}

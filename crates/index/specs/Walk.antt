@@ -2,7 +2,7 @@
 use Rattle.std.specs.Prelude.{◌≡◌, refl, List, ◌∷◌, ℕ, suc, ◌<◌, ◌≤◌, ◌+◌, ◌-◌, ◌^◌, length}
 use Rattle.std.proofs.Common.{sym, ◌∙◌, arith, div-add-mod'}
 use Rattle.std.proofs.Math.Path.{ap}
-use Rattle.cases.specs.Numbers.{two}
+use Rattle.words.specs.Numbers.{two}
 use Rattle.words.specs.Hash.{hash_of, hash_from, mixed, empty_words, singleton_words, array_words}
 use Rattle.words.specs.Hash.Laws.{hash_of_array}
 use Rattle.arena.specs.Store.{Node, end, dollar, push, Store}

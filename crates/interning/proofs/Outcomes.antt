@@ -3,7 +3,7 @@ use Rattle.std.specs.Prelude.{◌≡◌, List, ℕ, ◌<◌, ◌+◌, ◌-◌, �
 use Rattle.std.proofs.Common.{sym, ap, ◌∙◌, arith}
 use Rattle.std.proofs.Math.ListN.{length}
 use borrow.Author.Tests.{eq-eqb, ne_eqb, lt-ltb, le-ltb}
-use Rattle.stacks.specs.Forest.{none, over}
+use Rattle.arena.specs.Forest.{none, over}
 use Rattle.words.specs.Names.{empty_mark}
 use Rattle.words.specs.Compact.{compacted}
 use Rattle.words.specs.declared.names.Compacted.TheVariants.{Mark, State, OutOfRange}

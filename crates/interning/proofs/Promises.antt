@@ -7,11 +7,11 @@ use Rattle.std.proofs.Math.Bool.{or-false}
 use Prim.Native.Nat.{ℕ, suc, ◌+◌, ◌-◌, ◌<◌, ◌≤◌}
 use native.Mathlib.Omega.{arith}
 use Rattle.std.proofs.Math.ListN.{length}
-use Rattle.cases.specs.Bools.{bool?}
-use Rattle.cases.specs.Numbers.{below?, never}
+use Rattle.words.specs.Bools.{bool?}
+use Rattle.words.specs.Numbers.{below?, never}
 use Rattle.words.specs.Names.{empty_mark}
 use Rattle.words.specs.Refusals.{number}
-use Rattle.stacks.specs.Forest.{Forest, none, mark, over, mem}
+use Rattle.arena.specs.Forest.{Forest, none, mark, over, mem}
 use Rattle.arena.specs.Store.{Store, tree, push, end, at}
 use Rattle.arena.proofs.Trees.{tree_canon}
 use Rattle.arena.proofs.Identity.{tree_root}

@@ -6,9 +6,9 @@ use Rattle.std.proofs.Math.Bool.{not, and-false}
 use native.Mathlib.Omega.{arith}
 use Rattle.std.proofs.Math.ListN.{length}
 use borrow.Author.Tests.{eqb-true, lt-ltb, le-ltb, le-leb, lt-leb}
-use Rattle.cases.specs.Bools.{bool?, and_left}
-use Rattle.cases.specs.Numbers.{below?}
-use Rattle.stacks.specs.Forest.{none, over}
+use Rattle.words.specs.Bools.{bool?, and_left}
+use Rattle.words.specs.Numbers.{below?}
+use Rattle.arena.specs.Forest.{none, over}
 use Rattle.words.specs.Names.{empty_mark}
 use Rattle.arena.specs.Store.{Store, tree}
 use Rattle.arena.specs.Place.{place}

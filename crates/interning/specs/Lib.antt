@@ -4,3 +4,6 @@ pub mod Interned
 pub mod Making
 pub mod SingletonCall
 pub mod Replies
+pub use Rattle.store.specs.Asks
+pub use Rattle.store.specs.Calls
+pub use Rattle.store.specs.Checks

@@ -14,7 +14,7 @@ use Rattle.encoding.specs.Encoded.{encoded, store_of_words}
 use Rattle.encoding.specs.Decoded.{decoded}
 use Rattle.index.specs.Index.{Indexed}
 use Rattle.index.specs.Records.{Records, Stacked}
-use Rattle.recordcheck.specs.Check.{Ready}
+use Rattle.store.specs.Check.{Ready}
 
 pub record Live (w z : List ℕ) : Type 0 where
   pub good : GoodStore (store_of w)

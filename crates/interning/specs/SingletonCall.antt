@@ -1,7 +1,7 @@
 -- To believe: the call that places a state over a context, as a function of what came in: document 01's table in its order of checking.
 pub mod Laws
 use Rattle.std.specs.Prelude.{Bool, true, false, not, ◌&&◌, List, [], ◌∷◌, ℕ, eqb, leb}
-use Rattle.stacks.specs.Forest.{none, over}
+use Rattle.arena.specs.Forest.{none, over}
 use Rattle.words.specs.Names.{empty_mark}
 use Rattle.arena.specs.Store.{Store, tree}
 use Rattle.arena.specs.Place.{place}

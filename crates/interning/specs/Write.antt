@@ -1,7 +1,7 @@
 -- Entries on the stack written as a record: one word pair at a time, and as a whole. Nothing here has to be believed.
 use Rattle.std.specs.Prelude.{◌≡◌, refl, List, ℕ, suc, ◌<◌, ◌≤◌, ◌+◌, ◌-◌, length}
 use Rattle.std.proofs.Common.{arith, length-set}
-use Rattle.cases.specs.Numbers.{two}
+use Rattle.words.specs.Numbers.{two}
 use Rattle.arena.specs.Store.{Node, end, dollar, push, Store}
 use Rattle.arena.specs.Kinds.{size}
 use Rattle.arena.proofs.KindsLaws.{room_many}

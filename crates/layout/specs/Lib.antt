@@ -6,3 +6,8 @@ pub mod Decode
 pub mod Sound
 pub mod Encode
 pub mod Ceilings
+pub use Rattle.arena.specs.Kinds
+pub use Rattle.arena.specs.Merge
+pub use Rattle.arena.specs.Place
+pub use Rattle.arena.specs.Room
+pub use Rattle.arena.specs.Store

@@ -3,7 +3,7 @@
 pub mod Laws
 use Rattle.std.specs.Prelude.{◌≡◌, true, false, List, [], ◌∷◌, ◌++◌, ℕ, ◌+◌, ◌≤◌, eqb, length}
 use Rattle.layout.specs.Layout.{store_words, most_contexts, most_entries, stop, parent, state}
-use Rattle.arena.specs.Store.{Node}
+use Rattle.layout.specs.Store.{Node}
 use Rattle.layout.specs.Listing.{listing}
 use Rattle.layout.specs.Listing.Laws.{Entries}
 use Rattle.lines.specs.Decimal.{decimal}

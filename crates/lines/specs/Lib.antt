@@ -5,3 +5,12 @@ pub mod Lines
 pub mod Laid
 pub mod Entries
 pub mod Determined
+pub use Rattle.groups.specs.Answers
+pub use Rattle.groups.specs.Calls
+pub use Rattle.groups.specs.Check
+pub use Rattle.groups.specs.Checks
+pub use Rattle.groups.specs.Groups
+pub use Rattle.groups.specs.Layout
+pub use Rattle.groups.specs.Lists
+pub use Rattle.groups.specs.Reason
+pub use Rattle.layout.specs.Layout as LayoutLayout

@@ -1,8 +1,8 @@
 -- To believe: the lines of a script's output, as bytes.
 pub mod Laws
 use Rattle.std.specs.Prelude.{Bool, true, false, List, [], ◌∷◌, ◌++◌, ℕ}
-use Rattle.arena.specs.Store.{Node, end, dollar, push}
-use Rattle.arena.specs.Kinds.{size}
+use Rattle.layout.specs.Store.{Node, end, dollar, push}
+use Rattle.layout.specs.Kinds.{size}
 use Rattle.layout.specs.Layout.{count, used}
 use Rattle.groups.specs.Answers.{Answer, none, only}
 use Rattle.groups.specs.Reason as Reasons

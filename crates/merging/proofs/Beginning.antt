@@ -5,8 +5,8 @@ use Rattle.std.proofs.Math.Path.{ap}
 use Prim.Native.Nat.{ℕ, suc, ◌<◌, ◌≤◌, ◌+◌, ◌*◌, min, max}
 use Rattle.arena.specs.Store.{nowhere}
 use Rattle.arena.proofs.Placed.{grew_refl}
-use Rattle.layout.specs.Layout.{scratch_words, most_contexts}
-use Rattle.layout.specs.Decode.{store_of}
+use Rattle.index.specs.Layout.{scratch_words, most_contexts}
+use Rattle.index.specs.Decode.{store_of}
 use Rattle.index.specs.Grow.{index_frame}
 use Rattle.interning.specs.Live.{Live}
 use Rattle.work.specs.Counted.{State, Outcome, done, refused, and_then, completed, made, begins, recall, counted}

@@ -1,15 +1,15 @@
 -- A side of a merge: its parents are older, so that their merge is a smaller one, and the entry stack is long enough. Nothing here has to be believed.
 use Rattle.std.specs.Prelude.{◌≡◌, List, ℕ, suc, ◌<◌, ◌≤◌, ◌+◌, length}
 use Rattle.std.proofs.Common.{sym, ap, ◌∙◌, arith}
-use Rattle.cases.specs.Numbers.{two, below?}
+use Rattle.words.specs.Numbers.{two, below?}
 use Rattle.arena.specs.Store.{node_at}
 use Rattle.arena.proofs.Trees.{node_sound, node_rise, rise_le}
 use Rattle.arena.specs.Kinds.{size}
 use Rattle.arena.proofs.Placed.{Grew, grew_length}
-use Rattle.layout.specs.Layout.{kind, stop}
-use Rattle.layout.specs.Decode.{store_of}
+use Rattle.index.specs.Layout.{kind, stop}
+use Rattle.index.specs.Decode.{store_of}
 use Rattle.encoding.specs.Encoded.{node_below}
-use Rattle.store.specs.Asks.{Known}
+use Rattle.interning.specs.Asks.{Known}
 use Rattle.interning.specs.Live.{Live, live_sound}
 use Rattle.arena.proofs.KindsLaws.{room_many}
 use Rattle.work.proofs.Heads.{head_parent}

@@ -3,17 +3,17 @@ use Rattle.std.specs.Prelude.{◌≡◌, Bool, List, length}
 use Rattle.std.proofs.Common.{sym, ◌∙◌, arith, add-one}
 use Rattle.std.proofs.Math.Path.{ap}
 use Prim.Native.Nat.{ℕ, suc, ◌<◌, ◌≤◌, ◌+◌}
-use Rattle.cases.specs.Numbers.{two}
+use Rattle.words.specs.Numbers.{two}
 use Rattle.arena.specs.Store.{Node, node_at, tree}
 use Rattle.arena.specs.Kinds.{size}
 use Rattle.arena.specs.Place.{merge_s}
 use Rattle.arena.proofs.Placed.{Grew, grew_length}
 use Rattle.arena.proofs.Steps.{merge_holds}
-use Rattle.layout.specs.Layout.{most_contexts}
-use Rattle.layout.specs.Decode.{store_of}
+use Rattle.index.specs.Layout.{most_contexts}
+use Rattle.index.specs.Decode.{store_of}
 use Rattle.index.specs.Writes.{put_entry}
 use Rattle.interning.specs.Interned.{More, answered}
-use Rattle.store.specs.Asks.{Known}
+use Rattle.interning.specs.Asks.{Known}
 use Rattle.work.specs.Counted.{State, Outcome, refused, and_then, interned, counted}
 use Rattle.work.proofs.Heads.{head_state}
 use Rattle.work.proofs.After.{Good, Went}

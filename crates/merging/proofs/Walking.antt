@@ -11,8 +11,8 @@ use Rattle.arena.proofs.Below.{NodeBelow}
 use Rattle.arena.proofs.Trees.{rise_le}
 use Rattle.arena.proofs.Placed.{Grew, grew_refl, grew_trans, grew_length}
 use Rattle.arena.specs.Place.{intern}
-use Rattle.layout.specs.Layout.{stop}
-use Rattle.layout.specs.Decode.{store_of}
+use Rattle.index.specs.Layout.{stop}
+use Rattle.index.specs.Decode.{store_of}
 use Rattle.encoding.specs.Decide.{fits}
 use Rattle.encoding.proofs.DecideLaws.{true_fits, fits_false}
 use Rattle.index.specs.Writes.{put_entry}

@@ -2,7 +2,7 @@
 -- Nothing here has to be believed.
 use Rattle.std.specs.Prelude.{◌≡◌, refl, [], ◌∷◌, ◌++◌, ℕ, suc, ◌<◌, ◌≤◌, ◌+◌, length}
 use Rattle.std.proofs.Common.{ap, ◌∙◌, arith, length-append}
-use Rattle.cases.specs.Numbers.{two}
+use Rattle.words.specs.Numbers.{two}
 use Rattle.arena.specs.Store.{Store, node_at}
 use Rattle.arena.proofs.Trees.{node_old}
 use Rattle.arena.proofs.Placed.{Grew}
@@ -17,7 +17,7 @@ older_pool : (s : Store) (j : ℕ) → pool (older s j) ≤ pool s
 unfolding older pool
 older_pool [] j = omega arith
 older_pool (n ∷ s) j =
-    Rattle.cases.specs.Numbers.three j (suc (length s))
+    Rattle.words.specs.Numbers.three j (suc (length s))
     (λ l. rw (older_part n s j (omega arith)) (omega (arith, older_pool s j)))
     (λ e. rw (older_all (n ∷ s) j (omega arith)) (omega arith))
     (λ l. rw (older_all (n ∷ s) j (omega arith)) (omega arith))

@@ -4,9 +4,9 @@ use Rattle.std.proofs.Common.{ap, ◌∙◌, inr, arith, eqb-true}
 use Rattle.std.proofs.lemmas.Bool.{eqb-false}
 use Rattle.arena.specs.Store.{Node, node_at}
 use Rattle.arena.proofs.Placed.{Grew, grew_trans}
-use Rattle.layout.specs.Layout.{scratch_words, store_words}
-use Rattle.layout.specs.Decode.{store_of}
-use Rattle.layout.specs.Encode.{words_of}
+use Rattle.index.specs.Layout.{scratch_words, store_words}
+use Rattle.index.specs.Decode.{store_of}
+use Rattle.index.specs.Encode.{words_of}
 use Rattle.encoding.specs.Good.{GoodStore}
 use Rattle.encoding.specs.Written.{words_length}
 use Rattle.interning.specs.Live.{Live, live_length}

@@ -6,13 +6,13 @@ use Rattle.std.proofs.Math.Bool.{true, false}
 use mathlib.Core.List.{List, [], ◌∷◌}
 use Rattle.std.proofs.Math.ListN.{length}
 use Rattle.std.proofs.lemmas.Bool.{eqb-false, not-true}
-use Rattle.layout.specs.Layout.{scratch_words, blank}
-use Rattle.sets.specs.Config.{Config}
-use Rattle.sets.specs.Layout.{most_configs, config_at, config_count}
-use Rattle.sets.specs.Lists.{any}
-use Rattle.cases.specs.Bools.{bool?, bool_iff, both_true, and_left, and_right}
-use Rattle.sets.specs.Words.{configs_in}
-use Rattle.sets.specs.Listed.{configs_length}
+use Rattle.groups.specs.LayoutLayout.{scratch_words, blank}
+use Rattle.groups.specs.Config.{Config}
+use Rattle.groups.specs.Layout.{most_configs, config_at, config_count}
+use Rattle.groups.specs.SetsLists.{any}
+use Rattle.words.specs.Bools.{bool?, bool_iff, both_true, and_left, and_right}
+use Rattle.groups.specs.Words.{configs_in}
+use Rattle.groups.specs.Listed.{configs_length}
 use Rattle.groups.specs.Lists.{In, which}
 use Rattle.groups.specs.Lists.Tests.{any_exact}
 use Rattle.groups.specs.Groups.{insert, rising, alts_of, subset}

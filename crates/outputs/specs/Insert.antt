@@ -9,9 +9,9 @@ use Rattle.std.proofs.Math.ListN.{length, get_or, take, set, replicate}
 use Rattle.std.proofs.lemmas.List.{set_split, take-set-le, drop-set-add}
 use Rattle.std.proofs.Math.Seq.{length-take-le}
 use Rattle.std.proofs.lemmas.Bool.{lt-leb}
-use Rattle.cases.specs.Numbers.{two, three}
-use Rattle.layout.specs.Layout.{blank}
-use Rattle.cases.specs.Bools.{never_both}
+use Rattle.words.specs.Numbers.{two, three}
+use Rattle.groups.specs.LayoutLayout.{blank}
+use Rattle.words.specs.Bools.{never_both}
 use Rattle.groups.specs.Lists.{All, Rising}
 use Rattle.groups.specs.Lists.Laws.{every_map}
 use Rattle.groups.specs.Groups.{insert}

@@ -7,11 +7,11 @@ use Prim.Native.Nat.{ℕ, zero, suc, ◌<◌, ◌≤◌, ◌+◌, ◌-◌}
 use native.Mathlib.Omega.{arith}
 use Rattle.std.proofs.Math.ListN.{length, length-append}
 use Rattle.std.proofs.Math.Seq.{length-take-le}
-use Rattle.cases.specs.Numbers.{two}
-use Rattle.sets.specs.Config.{Config}
-use Rattle.sets.specs.Layout.{config_at, config_count}
-use Rattle.cases.specs.Bools.{bool?, is_false, never_both}
-use Rattle.sets.specs.Words.{configs_in}
+use Rattle.words.specs.Numbers.{two}
+use Rattle.groups.specs.Config.{Config}
+use Rattle.groups.specs.Layout.{config_at, config_count}
+use Rattle.words.specs.Bools.{bool?, is_false, never_both}
+use Rattle.groups.specs.Words.{configs_in}
 use Rattle.groups.specs.Lists.{which}
 use Rattle.groups.specs.Groups.{insert, rising, alts_of, together, subset}
 use Rattle.groups.proofs.Firsts.{together_kind}

@@ -2,8 +2,8 @@
 pub mod Laws
 use mathlib.Core.List.{List, ◌∷◌, ◌++◌, flat_map}
 use Rattle.std.specs.Prelude.{ℕ, ◌-◌, length}
-use Rattle.layout.specs.Layout.{blank}
-use Rattle.sets.specs.Config.{Config}
+use Rattle.groups.specs.LayoutLayout.{blank}
+use Rattle.groups.specs.Config.{Config}
 use Rattle.groups.specs.Groups.{Group, groups}
 use Rattle.groups.specs.Answers.{conflicting_alts}
 

@@ -6,7 +6,7 @@ use mathlib.Core.List.{List, [], ◌∷◌, ◌++◌, append_assoc}
 use Rattle.std.proofs.Math.ListN.{length, take}
 use Rattle.std.proofs.lemmas.List.{set_at}
 use Rattle.std.proofs.Math.Seq.{take-append-le, take_at}
-use Rattle.layout.specs.Layout.{blank}
+use Rattle.groups.specs.LayoutLayout.{blank}
 use Rattle.groups.specs.Lists.{Rising}
 use Rattle.groups.specs.Groups.{insert}
 use Rattle.outputs.specs.Outputs.{padded}

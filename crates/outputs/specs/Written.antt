@@ -4,14 +4,14 @@ use Rattle.std.proofs.Math.Path.{sym, ap, ap₂}
 use Rattle.std.proofs.Common.{◌∙◌, arith, add-one}
 use mathlib.Core.List.{List, [], ◌∷◌, ◌++◌, map, flat_map, append_assoc, append-nil, map-append}
 use Rattle.std.proofs.Math.ListN.{length, set, length-append}
-use Rattle.cases.specs.Numbers.{two}
-use Rattle.layout.specs.Layout.{blank}
-use Rattle.sets.specs.Config.{Config}
-use Rattle.sets.specs.Layout.{most_configs, config_at, config_count}
-use Rattle.sets.specs.Lists.{any}
-use Rattle.cases.specs.Bools.{bool?}
-use Rattle.sets.specs.Words.{configs_in}
-use Rattle.sets.specs.Listed.{configs_length, at_any, none_any}
+use Rattle.words.specs.Numbers.{two}
+use Rattle.groups.specs.LayoutLayout.{blank}
+use Rattle.groups.specs.Config.{Config}
+use Rattle.groups.specs.Layout.{most_configs, config_at, config_count}
+use Rattle.groups.specs.SetsLists.{any}
+use Rattle.words.specs.Bools.{bool?}
+use Rattle.groups.specs.Words.{configs_in}
+use Rattle.groups.specs.Listed.{configs_length, at_any, none_any}
 use Rattle.groups.specs.Groups.{Group, together, firsts, subset, groups}
 use Rattle.groups.proofs.Room.{groups_fit, groups_most}
 use Rattle.groups.proofs.Last.{firsts_new, firsts_old}

@@ -2,20 +2,20 @@
 -- s is a script's bytes, l the words lent to it. Nothing here has to be believed but what the statements say.
 use Rattle.std.specs.Prelude.{◌≡◌, ◌↔◌, Bool, not, List, [], ℕ, ◌+◌, ◌<◌, ◌≤◌}
 use Rattle.std.proofs.Common.{sym, ap}
-use Rattle.layout.specs.Layout.{used, count as contexts}
+use Rattle.encoding.specs.Layout.{used, count as contexts}
 use Rattle.store.specs.Calls.{Left, Accepts}
 use Rattle.interning.specs.SingletonCall.{singleton_call}
 use Rattle.interning.proofs.Promises.{singleton_figure, singleton_found, singleton_one}
-use Rattle.contexts.specs.MergeCall.{merge_call}
-use Rattle.contexts.specs.Promises.{merge_figure, merge_found}
+use Rattle.configs.specs.MergeCall.{merge_call}
+use Rattle.configs.specs.Promises.{merge_figure, merge_found}
 use Rattle.sets.specs.Config.{Config}
 use Rattle.sets.specs.Layout.{config_at, config_count, flag}
 use Rattle.sets.specs.Sets.{key}
 use Rattle.sets.specs.Calls.{Adds, add_call}
 use Rattle.configs.proofs.Sentences.{add_figure, merged_call, inserted_none}
-use Rattle.format.specs.Format.{singleton, merge, add}
-use Rattle.lines.specs.Lines.{numbers_line, end_line}
-use Rattle.replies.specs.Replies.{Lent, line_of, set_line_of, call_of}
+use Rattle.steps.specs.Format.{singleton, merge, add}
+use Rattle.steps.specs.Lines.{numbers_line, end_line}
+use Rattle.steps.specs.Replies.{Lent, line_of, set_line_of, call_of}
 use Rattle.steps.specs.Steps.{run_of}
 use Rattle.steps.specs.ContextsMade.{made_by, sum_of}
 use Rattle.steps.proofs.ContextsMadeLaws.{singleton_prints, merge_prints, add_prints, sum_printed}

@@ -5,10 +5,10 @@ use Rattle.std.specs.Prelude.{◌≡◌, ◌↔◌, Bool, true, not, ◌&&◌, �
 use Rattle.std.proofs.Common.{ap, eq-eqb, eqb-true, ltb-true, ltb-false, lt-ltb, le-ltb, leb-true, le-leb}
 use mathlib.Core.List.{List, [], map, Sublistᴰ}
 use Rattle.std.proofs.lemmas.Bool.{not-true}
-use Rattle.words.specs.Names.{empty_mark}
+use Rattle.encoding.specs.Names.{empty_mark}
 use Rattle.arena.specs.Store.{Store, at}
 use Rattle.arena.specs.Room.{pool}
-use Rattle.layout.specs.Layout.{store_words, scratch_words, most_contexts, most_entries, stop, count as contexts}
+use Rattle.encoding.specs.Layout.{store_words, scratch_words, most_contexts, most_entries, stop, count as contexts}
 use Rattle.encoding.specs.Decide.{fits}
 use Rattle.encoding.proofs.DecideLaws.{fits_true, true_fits}
 use Rattle.store.specs.Checks.{Check, order, due}
@@ -22,9 +22,9 @@ use Rattle.store.proofs.Told.{fresh_refused_exactly, fresh_refused_leaves}
 use Rattle.interning.specs.SingletonCall.{singleton_checks, singleton_call}
 use Rattle.interning.proofs.Promises.{singleton_refused_exactly, singleton_refused_leaves}
 use Rattle.interning.proofs.Promises as Singles
-use Rattle.contexts.specs.MergeCall.{merge_checks, merge_call}
-use Rattle.contexts.specs.Promises.{merge_refused_exactly, merge_refused_leaves}
-use Rattle.contexts.specs.Promises as Merges
+use Rattle.configs.specs.MergeCall.{merge_checks, merge_call}
+use Rattle.configs.specs.Promises.{merge_refused_exactly, merge_refused_leaves}
+use Rattle.configs.specs.Promises as Merges
 use Rattle.queries.specs.Queries.{Question, query_call}
 use Rattle.queries.proofs.Refused.{query_refused_exactly, query_refused_leaves, ask_in_order}
 use Rattle.sets.specs.Lists.{any}
@@ -39,15 +39,15 @@ use Rattle.sets.proofs.Refusals as SetRefusals
 use Rattle.sets.proofs.Refusals.{full_exactly}
 use Rattle.promises.specs.Words.{fails, two_hold}
 use Rattle.sets.proofs.Refusals.{fresh_refused_exactly as fresh-set-exactly, fresh_refused_leaves as fresh-set-leaves}
-use Rattle.outputs.specs.Outputs.{subsets_length, alts_length}
-use Rattle.verdicts.specs.Calls as Verdicts
-use Rattle.verdicts.specs.Calls.{read_refusal, read_checks, conflicting_alt_subsets_call, conflicting_alts_call, unique_alt_call, single_viable_alt_call}
-use Rattle.verdicts.specs.Calls.{all_subsets_conflict_call, all_subsets_equal_call, most_stops, too_many_stops, verdict_call}
-use Rattle.figures.specs.Calls.{figures_call}
-use Rattle.figures.specs.Same.{figures_refuses}
-use Rattle.reasons.specs.Calls.{why_call}
-use Rattle.reasons.specs.Sentences.{why_refuses}
-use Rattle.verdicts.specs.Refused.{unique_refuses, viable_refuses, conflict_refuses, equal_refuses, verdict_refuses, subsets_refuses, alts_refuses, read_in_order}
+use Rattle.readers.specs.Outputs.{subsets_length, alts_length}
+use Rattle.readers.specs.VerdictsCalls as Verdicts
+use Rattle.readers.specs.VerdictsCalls.{read_refusal, read_checks, conflicting_alt_subsets_call, conflicting_alts_call, unique_alt_call, single_viable_alt_call}
+use Rattle.readers.specs.VerdictsCalls.{all_subsets_conflict_call, all_subsets_equal_call, most_stops, too_many_stops, verdict_call}
+use Rattle.steps.specs.FiguresCalls.{figures_call}
+use Rattle.steps.specs.Same.{figures_refuses}
+use Rattle.readers.specs.ReasonsCalls.{why_call}
+use Rattle.readers.specs.Sentences.{why_refuses}
+use Rattle.readers.specs.Refused.{unique_refuses, viable_refuses, conflict_refuses, equal_refuses, verdict_refuses, subsets_refuses, alts_refuses, read_in_order}
 
 -- "Every call ends on every input with nothing undefined": no theorem, but the toolchain's check of every function. No public call has a
 -- `requires` (`measure_copy` has one, which is for benchmarks only); each loop and the cycle of merges has a measure that falls; no index is out of

@@ -5,12 +5,12 @@ use Rattle.std.specs.Prelude.{◌≡◌, refl, Bool, true, false, ℕ, ◌<◌, 
 use mathlib.Core.List.{List, Memᴰ}
 use Rattle.stacks.specs.Forest.{Forest, mem}
 use Rattle.arena.specs.Stands.{stands}
-use Rattle.layout.specs.Layout.{store_words, count as contexts}
-use Rattle.layout.specs.Decode.{store_of}
+use Rattle.encoding.specs.Layout.{store_words, count as contexts}
+use Rattle.encoding.specs.Decode.{store_of}
 use Rattle.encoding.specs.Decide.{sound}
 use Rattle.store.specs.Calls.{Accepts}
-use Rattle.contexts.specs.MergeCall.{merge_call}
-use Rattle.contexts.specs.Promises.{itself}
+use Rattle.configs.specs.MergeCall.{merge_call}
+use Rattle.configs.specs.Promises.{itself}
 use Rattle.runs.specs.Runs.{Event, merged, placed, Run}
 use Rattle.runs.proofs.MergeLaws as Laws
 

@@ -1,11 +1,11 @@
 -- Promised: request A10's sentences, over the calls. Nothing here has to be believed.
 use Rattle.std.specs.Prelude.{◌≡◌, Bool, not, List, ℕ, ◌<◌, ◌≤◌}
 use Rattle.std.proofs.Common.{sym, ap}
-use Rattle.layout.specs.Decode.{store_of}
+use Rattle.encoding.specs.Decode.{store_of}
 use Rattle.work.specs.Counted.{counting, count_of}
 use Rattle.store.specs.Calls.{Left, Accepts}
-use Rattle.contexts.specs.MergeCall.{merge_call}
-use Rattle.contexts.specs.Promises.{merge_counts}
+use Rattle.configs.specs.MergeCall.{merge_call}
+use Rattle.configs.specs.Promises.{merge_counts}
 use Rattle.sets.specs.Config.{Config}
 use Rattle.sets.specs.Layout.{config_at, config_count, flag}
 use Rattle.sets.specs.Sets.{key}

@@ -1,13 +1,13 @@
 -- Promised: scripts, and what holds of every call in them. s is a script's bytes, l the words lent to it: store, set, stop states and scratch.
 -- Nothing here has to be believed but what the statements say.
 use Rattle.std.specs.Prelude.{◌≡◌, List, [], ◌∷◌, ◌++◌, ℕ, length}
-use Rattle.layout.specs.Layout.{store_words, scratch_words}
+use Rattle.encoding.specs.Layout.{store_words, scratch_words}
 use Rattle.store.specs.Calls.{zeros}
 use Rattle.sets.specs.Layout.{set_words_length}
-use Rattle.format.specs.Format.{Record}
-use Rattle.lines.specs.Lines.{end_line}
-use Rattle.replies.specs.Replies.{Lent, call_of}
-use Rattle.replies.specs.Zeros.{call_zero}
+use Rattle.steps.specs.Format.{Record}
+use Rattle.steps.specs.Lines.{end_line}
+use Rattle.steps.specs.Replies.{Lent, call_of}
+use Rattle.steps.specs.Zeros.{call_zero}
 use Rattle.steps.specs.Steps.{step_of, run_of, script_replies}
 use Rattle.steps.specs.Steps.Laws.{step_zero}
 use Rattle.script.specs.Leads.{run_leads, end_line_lem}

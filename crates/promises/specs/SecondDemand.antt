@@ -5,8 +5,8 @@ use Rattle.std.specs.Prelude.{◌≡◌, ◌↔◌, Bool, true, false, not, ◌&
 use Rattle.std.proofs.Math.Path.{refl, ap}
 use Rattle.std.proofs.Common.{◌∙◌, arith, le-ltb}
 use mathlib.Core.List.{List, [], ◌∷◌, flat_map, Memᴰ}
-use Rattle.words.specs.Names.{empty_mark}
-use Rattle.words.specs.Provenance.{mark_of}
+use Rattle.encoding.specs.Names.{empty_mark}
+use Rattle.encoding.specs.Provenance.{mark_of}
 use Rattle.stacks.specs.Forest.{Forest, over, mem}
 use Rattle.stacks.specs.Forest as Forests
 use Rattle.stacks.specs.Merge.{merge_t}
@@ -21,10 +21,10 @@ use Rattle.arena.specs.Stands.{stands}
 use Rattle.arena.specs.Numbering.{parts, Joins}
 use Rattle.arena.proofs.NumberingLaws.{joins_determined}
 use Rattle.arena.proofs.Identity.{finite_stacks, some_stack, root_stands}
-use Rattle.layout.specs.Layout.{store_words, scratch_words, stop, blank, count as contexts, kind, first, second, state}
-use Rattle.layout.specs.Decode.{store_of}
-use Rattle.layout.specs.Encode.{words_of}
-use Rattle.layout.specs.Sound.{SoundWords}
+use Rattle.encoding.specs.Layout.{store_words, scratch_words, stop, blank, count as contexts, kind, first, second, state}
+use Rattle.encoding.specs.Decode.{store_of}
+use Rattle.encoding.specs.Encode.{words_of}
+use Rattle.encoding.specs.Sound.{SoundWords}
 use Rattle.encoding.specs.Decide.{sound}
 use Rattle.encoding.proofs.DecideLaws.{sound_true, true_sound}
 use Rattle.encoding.specs.Decoded.{decoded}
@@ -34,8 +34,8 @@ use Rattle.store.proofs.FreshWords.{fresh_goes, fresh_count}
 use Rattle.store.proofs.Told.{fresh_sound}
 use Rattle.interning.specs.SingletonCall.{singleton_call}
 use Rattle.interning.proofs.Promises.{mark_answers_0, single_stands, single_sound_after, single_numbers}
-use Rattle.contexts.specs.MergeCall.{merge_call}
-use Rattle.contexts.specs.Promises.{merge_by_wildcard, merge_sound_after, merge_numbers_after}
+use Rattle.configs.specs.MergeCall.{merge_call}
+use Rattle.configs.specs.Promises.{merge_by_wildcard, merge_sound_after, merge_numbers_after}
 use Rattle.queries.specs.Queries.{Question, entry_count, entry_state, entry_parent, answer_to, query_call}
 use Rattle.queries.proofs.Sentences as Asked
 use Rattle.sets.specs.Layout.{set_words_length, config_at, config_count, flag}
@@ -53,16 +53,16 @@ use Rattle.groups.specs.Answers.{none, conflicting_alts, unique_alt, single_viab
 use Rattle.groups.specs.Sentences.{Subsets, Many, ConflictUnion, AllEqual, Viable, Unique, Says, VerdictYes}
 use Rattle.groups.proofs.Rules.{groups_unique}
 use Rattle.groups.proofs.Room.{groups_fit, conflicting_most}
-use Rattle.outputs.specs.Outputs.Laws.{all_words}
+use Rattle.readers.specs.Outputs.Laws.{all_words}
 use Rattle.sets.specs.Listed.{configs_length}
 use Rattle.groups.proofs.Single.{unique_says, viable_says}
 use Rattle.groups.proofs.Conflicts.{conflict_exact}
 use Rattle.groups.proofs.Equal.{equal_exact}
 use Rattle.groups.proofs.Decided.{verdict_exact, verdict_empty, conflict_empty, equal_empty, viable_empty, unique_empty}
-use Rattle.outputs.specs.Outputs.{subsets_length, alts_length, padded, group_words}
-use Rattle.verdicts.specs.Calls.{alternative, says, most_stops, conflicting_alt_subsets_call, conflicting_alts_call, unique_alt_call, single_viable_alt_call}
-use Rattle.verdicts.specs.Calls.{all_subsets_conflict_call, all_subsets_equal_call, too_many_stops, verdict_call, VerdictLeft}
-use Rattle.verdicts.specs.Sentences as Judged
+use Rattle.readers.specs.Outputs.{subsets_length, alts_length, padded, group_words}
+use Rattle.readers.specs.VerdictsCalls.{alternative, says, most_stops, conflicting_alt_subsets_call, conflicting_alts_call, unique_alt_call, single_viable_alt_call}
+use Rattle.readers.specs.VerdictsCalls.{all_subsets_conflict_call, all_subsets_equal_call, too_many_stops, verdict_call, VerdictLeft}
+use Rattle.readers.specs.VerdictsSentences as Judged
 use Rattle.promises.specs.Words.{store_sound, known, asks, lent, answers, close_leaves}
 
 -- "equal the Rust's within our capacities (differential runs)": no theorem, but the gate's comparisons with the Rust that is ported, in rust/; how many contexts a call made

@@ -3,14 +3,14 @@
 -- one number." w and v are the words of a store before and after, z those of the scratch. Nothing here has to be believed but what the statements say.
 use Rattle.std.specs.Prelude.{◌≡◌, ◌↔◌, Bool, true, false, ◌||◌, List, ℕ, ◌<◌, length}
 use Rattle.arena.specs.Stands.{stands}
-use Rattle.layout.specs.Layout.{store_words, count as contexts}
-use Rattle.layout.specs.Decode.{store_of}
+use Rattle.encoding.specs.Layout.{store_words, count as contexts}
+use Rattle.encoding.specs.Decode.{store_of}
 use Rattle.encoding.specs.Decide.{sound}
 use Rattle.store.specs.Calls.{Accepts}
 use Rattle.interning.specs.SingletonCall.{singleton_call}
 use Rattle.interning.proofs.Promises.{single_older_kept}
-use Rattle.contexts.specs.MergeCall.{merge_call}
-use Rattle.contexts.specs.Promises.{equal_exactly, merge_is_union, older_kept, sides_exchanged}
+use Rattle.configs.specs.MergeCall.{merge_call}
+use Rattle.configs.specs.Promises.{equal_exactly, merge_is_union, older_kept, sides_exchanged}
 use Rattle.runs.specs.Runs.{Event, Run, SameContexts, Answers}
 use Rattle.runs.proofs.Growth.{run_grows}
 use Rattle.runs.proofs.Grouping.{one_number}

@@ -7,9 +7,9 @@ use Rattle.groups.specs.Reason as Reasons
 use Rattle.groups.specs.Reason.{Reason, Holds, NoEarlier}
 use Rattle.groups.proofs.ReasonLaws.{reason_forces, reason_unique}
 use Rattle.groups.specs.Answers.{verdict}
-use Rattle.verdicts.specs.Calls.{because, says, verdict_call}
-use Rattle.reasons.specs.Calls.{reason_words, why_call}
-use Rattle.reasons.specs.Sentences.{why_holds, why_first, why_verdict, why_words}
+use Rattle.readers.specs.VerdictsCalls.{because, says, verdict_call}
+use Rattle.readers.specs.ReasonsCalls.{reason_words, why_call}
+use Rattle.readers.specs.Sentences.{why_holds, why_first, why_verdict, why_words}
 
 -- w, v, z and o are the words lent as store, set, scratch and output; r is the reason answered
 module _ (w v z stops o : List ℕ) (r : Reason) (e : (why_call w v z stops o).reply ≡ because r) where

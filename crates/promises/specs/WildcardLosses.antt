@@ -6,10 +6,10 @@ use Rattle.stacks.specs.Losses.{BeginsWith, EndsAt}
 use Rattle.stacks.proofs.LossesLaws as Losses
 use Rattle.arena.specs.Stands.{stands}
 use Rattle.arena.specs.Store.{tree}
-use Rattle.layout.specs.Decode.{store_of}
+use Rattle.encoding.specs.Decode.{store_of}
 use Rattle.store.specs.Calls.{Accepts}
-use Rattle.contexts.specs.MergeCall.{merge_call}
-use Rattle.contexts.specs.Promises.{merge_by_wildcard, sides_canon}
+use Rattle.configs.specs.MergeCall.{merge_call}
+use Rattle.configs.specs.Promises.{merge_by_wildcard, sides_canon}
 
 -- a and b are merged to c by wildcard, w and v are the words of the store before and after
 module _ (w z : List ℕ) (a b c : ℕ) (v : List ℕ) (ok : Accepts (merge_call w z a b true) c v) where

@@ -4,17 +4,17 @@ use Rattle.std.proofs.Math.Path.{refl}
 use Rattle.std.proofs.Common.{sym, ap, ◌∙◌, eq-eqb, lt-ltb}
 use Rattle.std.proofs.lemmas.Bool.{not-true}
 use Rattle.arena.proofs.Soundness.{Sound}
-use Rattle.layout.specs.Layout.{store_words, scratch_words, count as contexts}
-use Rattle.layout.specs.Sound.{SoundWords}
-use Rattle.layout.specs.Decode.{store_of}
-use Rattle.layout.specs.Decode.Laws.{store_length}
+use Rattle.encoding.specs.Layout.{store_words, scratch_words, count as contexts}
+use Rattle.encoding.specs.Sound.{SoundWords}
+use Rattle.encoding.specs.Decode.{store_of}
+use Rattle.encoding.specs.Decode.Laws.{store_length}
 use Rattle.encoding.specs.Good.{GoodStore}
 use Rattle.encoding.specs.Decoded.{decoded}
 use Rattle.encoding.specs.Decide.{sound}
 use Rattle.encoding.proofs.DecideLaws.{sound_true}
 use Rattle.store.specs.Asks.{Known}
-use Rattle.cases.specs.Bools.{bool?, never_both, and_left, and_right, both_true}
-use Rattle.cases.specs.Numbers.{never}
+use Rattle.stacks.specs.Bools.{bool?, never_both, and_left, and_right, both_true}
+use Rattle.stacks.specs.Numbers.{never}
 use Rattle.store.specs.Checks.{Check, unless}
 use Rattle.store.specs.Checks.Laws.{clear_of, clear_passed}
 use Rattle.store.specs.Calls.{Reply, zeros, kept, refusal, asked, wrong_length, unsound_store, unknown_context}

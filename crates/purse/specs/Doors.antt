@@ -2,7 +2,7 @@
 pub mod Laws
 use Rattle.std.specs.Prelude.{◌≡◌, Bool, List, ℕ, eqb}
 use Rattle.verdicts.specs.Calls.{VerdictReply, VerdictLeft}
-use Rattle.sets.specs.Calls.{SetReply, SetLeft}
+use Rattle.setcheck.specs.Calls.{SetReply, SetLeft}
 use Rattle.store.specs.Calls.{Reply, Left}
 use Rattle.answers.specs.Answers.{counted_of}
 use Rattle.answers.specs.SetAnswers.{set_counted_of}

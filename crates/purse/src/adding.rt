@@ -1,9 +1,9 @@
 // The doors to the calls that write a set.
 ghost use Rattle.std.specs.Prelude.{◌≡◌};
-ghost use Rattle.sets.specs.Calls.{add_call, close_call, fresh_set_call};
+ghost use Rattle.setcheck.specs.Calls.{add_call, close_call, fresh_set_call};
 ghost use Rattle.answers.specs.SetAnswers.{set_number_of};
 ghost use Rattle.purse.specs.Doors.{OpensSet, OpensSetCounted, by_full_context};
-ghost use Rattle.sets.specs.Config.{config};
+ghost use Rattle.setcheck.specs.Config.{config};
 
 use answers::{CountedAnswer, added_answer, settled_number};
 use setcheck::AtnConfig;

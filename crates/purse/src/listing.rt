@@ -1,7 +1,7 @@
 // The door to a question on a list of config records.
 ghost use Rattle.std.specs.Prelude.{◌≡◌, map};
 ghost use Rattle.setcheck.specs.Configs.{config_of};
-ghost use Rattle.groups.specs.Answers.{unique_alt};
+ghost use Rattle.verdicts.specs.Answers.{unique_alt};
 ghost use Rattle.verdicts.specs.Calls.{alternative};
 ghost use Rattle.answers.specs.VerdictAnswers.{alt_answer_of};
 

@@ -5,9 +5,9 @@ use Rattle.std.proofs.Common.{◌∙◌, arith, eq-eqb, ne_eqb}
 use Rattle.words.specs.Names.{empty_mark}
 use Rattle.words.specs.Compact.{expanded}
 use Rattle.words.specs.Compact.Laws.{expanded_state}
-use Rattle.cases.specs.Numbers.{two}
-use Rattle.stacks.specs.Forest.{mem}
-use Rattle.stacks.specs.Merge.{is_mark}
+use Rattle.words.specs.Numbers.{two}
+use Rattle.arena.specs.Forest.{mem}
+use Rattle.arena.specs.Merge.{is_mark}
 use Rattle.arena.specs.Store.{Node, end, dollar, push, tree, node_at}
 use Rattle.arena.proofs.Soundness.{Sound}
 use Rattle.arena.specs.Kinds.{size}
@@ -17,8 +17,8 @@ use Rattle.layout.specs.Listing.Laws.{Entries, listing_size}
 use Rattle.layout.specs.Listing.{listing}
 use Rattle.layout.specs.Decode.{node_in, store_of}
 use Rattle.layout.specs.Decode.Laws.{store_length, store_node, node_zero, node_one, node_many}
-use Rattle.encoding.specs.Reads.{kind?, kind_zero, single_reads, array_entries, array_fits}
-use Rattle.encoding.specs.Decoded.{store_sound}
+use Rattle.store.specs.Reads.{kind?, kind_zero, single_reads, array_entries, array_fits}
+use Rattle.store.specs.Decoded.{store_sound}
 use Rattle.store.specs.Asks.{Known}
 use Rattle.store.specs.Calls.{context, none, state as shows}
 use Rattle.queries.specs.Queries.{entry_at, answer_to}

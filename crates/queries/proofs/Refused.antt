@@ -1,6 +1,6 @@
 -- Document 01's refusals of the queries: each exactly when it is due, and with nothing changed. Nothing here has to be believed.
 use Rattle.std.specs.Prelude.{◌≡◌, refl, ◌↔◌, Bool, true, false, List, ℕ, zero, suc, eqb}
-use Rattle.cases.specs.Numbers.{never}
+use Rattle.words.specs.Numbers.{never}
 use Rattle.arena.specs.Store.{Node, end, dollar, push, Store, node_at, at}
 use Rattle.layout.specs.Decode.{store_of}
 use Rattle.store.specs.Checks.{order, due}

@@ -8,8 +8,8 @@ use Rattle.arena.specs.Kinds.{size}
 use Rattle.layout.specs.Layout.{store_words, stop, kind, first, second, state as stateWord}
 use Rattle.layout.specs.Decode.{store_of}
 use Rattle.layout.specs.Sound.{SoundWords}
-use Rattle.cases.specs.Numbers.{two}
-use Rattle.encoding.specs.Reads.{kind?, kind_zero}
+use Rattle.words.specs.Numbers.{two}
+use Rattle.store.specs.Reads.{kind?, kind_zero}
 use Rattle.store.specs.Calls.{context, state, none}
 use Rattle.queries.specs.Queries.{entry_at}
 use Rattle.queries.specs.Listed.{state_at, parent_of, state_past}

@@ -3,7 +3,7 @@ use Rattle.std.specs.Prelude.{◌≡◌, refl, [], ℕ, zero, suc, ◌<◌, ◌�
 use Rattle.std.proofs.Common.{ap, ◌∙◌, arith, eq-eqb, ne_eqb}
 use Rattle.words.specs.Compact.{expanded}
 use Rattle.words.specs.Compact.Laws.{expanded_mark, expanded_state}
-use Rattle.cases.specs.Numbers.{two}
+use Rattle.words.specs.Numbers.{two}
 use Rattle.arena.specs.Store.{Node, end, dollar, push, Store}
 use Rattle.arena.specs.Kinds.{size}
 use Rattle.arena.proofs.Identity.{entries_stand}

@@ -1,7 +1,7 @@
 -- To believe: what each query leaves, as a function of what came in: the checks of document 01's table in its order, then what its paragraph "Queries" says.
 use Rattle.std.specs.Prelude.{true, false, List, [], ℕ, zero, suc, eqb}
 use Rattle.words.specs.Names.{empty_mark}
-use Rattle.stacks.specs.Merge.{is_mark}
+use Rattle.arena.specs.Merge.{is_mark}
 use Rattle.arena.specs.Store.{Node, end, dollar, push, Store, tree, node_at}
 use Rattle.arena.specs.Stands.{stands}
 use Rattle.arena.specs.Kinds.{size}

@@ -1,6 +1,6 @@
 // Which contexts have the empty stack in their set.
 ghost use Rattle.std.specs.Prelude.{◌≡◌, []};
-ghost use Rattle.stacks.specs.Forest.{mem};
+ghost use Rattle.arena.specs.Forest.{mem};
 ghost use Rattle.arena.specs.Store.{tree};
 ghost use Rattle.layout.specs.Decode.{store_of};
 ghost use Rattle.store.specs.Calls.{leaves};

@@ -2,12 +2,12 @@
 -- Nothing here has to be believed.
 use Rattle.std.specs.Prelude.{◌≡◌, refl, Bool, true, false, List, [], ◌∷◌, ◌++◌, ℕ, suc, eqb, length}
 use Rattle.std.proofs.Common.{sym, ap, ◌∙◌, subst, arith, eq-eqb}
-use Rattle.cases.specs.Numbers.{two}
-use Rattle.stacks.specs.Rules.{Stacks}
+use Rattle.arena.specs.Numbers.{two}
+use Rattle.arena.specs.Rules.{Stacks}
 use Rattle.arena.specs.Store.{Store, dollar}
-use Rattle.layout.specs.Layout.{store_words, blank}
-use Rattle.layout.specs.Decode.{store_of}
-use Rattle.layout.specs.Encode.{words_of}
+use Rattle.encoding.specs.Layout.{store_words, blank}
+use Rattle.encoding.specs.Decode.{store_of}
+use Rattle.encoding.specs.Encode.{words_of}
 use Rattle.encoding.specs.Good.Laws.{fresh_good}
 use Rattle.encoding.specs.Encoded.{store_of_words}
 use Rattle.encoding.specs.Writes.{length_blank}

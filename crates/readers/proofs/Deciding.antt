@@ -1,8 +1,8 @@
 -- Readers who choose each call by what they have seen make alone the same calls and see the same. Nothing here has to be believed.
 use Rattle.std.specs.Prelude.{◌≡◌, refl, true, false, List, [], ◌∷◌, ◌++◌, ℕ, suc, eqb}
 use Rattle.std.proofs.Common.{sym, ap, ◌∙◌, subst, eq-eqb, ne_eqb}
-use Rattle.cases.specs.Numbers.{two}
-use Rattle.stacks.specs.Rules.{Stacks}
+use Rattle.arena.specs.Numbers.{two}
+use Rattle.arena.specs.Rules.{Stacks}
 use Rattle.arena.specs.Store.{Store}
 use Rattle.groups.specs.Lists.{which}
 use Rattle.readers.specs.Calls.{Call, Lent, Sized, Got, refused, Reader}

@@ -1,8 +1,8 @@
 -- A run of two readers that lacks no room, and in which the second's numbers are not those that it gets alone. Nothing here has to be believed.
 use Rattle.std.specs.Prelude.{◌≡◌, refl, true, false, List, [], ◌∷◌, ℕ}
 use Rattle.std.proofs.Common.{sym, subst}
-use Rattle.cases.specs.Numbers.{never}
-use Rattle.stacks.specs.Merge.{is_mark, wild, merge_e, merge_t}
+use Rattle.arena.specs.Numbers.{never}
+use Rattle.arena.specs.Merge.{is_mark, wild, merge_e, merge_t}
 use Rattle.std.proofs.Math.ListN.{length}
 use Rattle.arena.specs.Store.{Store, tree_of, tree, same, find, node_at}
 use Rattle.arena.specs.Kinds.{size}
@@ -12,7 +12,7 @@ use Rattle.encoding.specs.Decide.{fits}
 use Rattle.store.specs.Checks.{unless}
 use Rattle.store.specs.Calls.{gives}
 use Rattle.interning.specs.SingletonCall.{single_s}
-use Rattle.work.specs.Counted.{too_much, counting, counted, deep, step, recall, begins, made, walk, before, and_then, interned, completed, keep}
+use Rattle.store.specs.Counted.{too_much, counting, counted, deep, step, recall, begins, made, walk, before, and_then, interned, completed, keep}
 use Rattle.sets.specs.Config.{config}
 use Rattle.sets.specs.Lists.{any, all}
 use Rattle.sets.specs.Sets.{empty_set, with_configs}

@@ -5,11 +5,11 @@ use Rattle.std.proofs.Common.{sym, ap, ◌∙◌, arith, le-leb, ltb-true, leb-f
 use mathlib.Core.List.{List, [], ◌∷◌}
 use Rattle.std.proofs.Math.ListN.{get_or}
 use Rattle.std.proofs.lemmas.Bool.{not-false}
-use Rattle.cases.specs.Bools.{bool?, never_both, and_left, and_right}
-use Rattle.cases.specs.Numbers.{below?}
-use Rattle.words.specs.Names.{empty_mark}
-use Rattle.stacks.specs.Forest.{Forest, none, mark, over}
-use Rattle.stacks.specs.Merge.{merge_t}
+use Rattle.arena.specs.Bools.{bool?, never_both, and_left, and_right}
+use Rattle.arena.specs.Numbers.{below?}
+use Rattle.encoding.specs.Names.{empty_mark}
+use Rattle.arena.specs.Forest.{Forest, none, mark, over}
+use Rattle.arena.specs.Merge.{merge_t}
 use Rattle.arena.specs.Store.{Store, tree, Found, at, nowhere}
 use Rattle.arena.proofs.Soundness.{Sound}
 use Rattle.arena.proofs.Trees.{tree_canon, at_nowhere}
@@ -19,8 +19,8 @@ use Rattle.arena.proofs.Placed.{Grew, grew_refl, grew_length, place_grew, Holds,
 use Rattle.arena.proofs.Steps.{merge_holds, merge_grew}
 use Rattle.arena.proofs.Below.{StoreBelow}
 use Rattle.arena.proofs.BelowLaws.{tree_below, merge_below, place_below}
-use Rattle.layout.specs.Layout.{stop}
-use Rattle.layout.specs.Ceilings.{Fits}
+use Rattle.encoding.specs.Layout.{stop}
+use Rattle.encoding.specs.Ceilings.{Fits}
 use Rattle.encoding.specs.Good.{GoodStore}
 use Rattle.encoding.specs.Decide.{fits}
 use Rattle.encoding.proofs.DecideLaws.{fits_true}

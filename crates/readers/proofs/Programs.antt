@@ -1,7 +1,7 @@
 -- Readers who choose each call by what they have seen. Nothing here has to be believed: no promise names it; `decided_as_if_alone` stands beside them.
 use Rattle.std.specs.Prelude.{List, [], ◌∷◌, ◌++◌, ℕ, suc, eqb}
-use Rattle.stacks.specs.Rules.{Stacks}
-use Rattle.layout.specs.Decode.{store_of}
+use Rattle.arena.specs.Rules.{Stacks}
+use Rattle.encoding.specs.Decode.{store_of}
 use Rattle.groups.specs.Lists.{which}
 use Rattle.readers.specs.Calls.{Call, Lent, Got, Reader, step}
 use Rattle.readers.specs.Runs.{see, By, after, put, fresh_store, starting}

@@ -6,14 +6,14 @@ use Rattle.std.proofs.Math.Bool.{not}
 use mathlib.Core.List.{List, [], ◌∷◌, ◌++◌, map, flat_map, append_assoc}
 use Rattle.std.proofs.Math.Dec.{eqb, ltb}
 use Rattle.std.proofs.lemmas.Bool.{not-false}
-use Rattle.cases.specs.Bools.{bool?, both_true}
-use Rattle.cases.specs.Numbers.{two}
-use Rattle.words.specs.Names.{empty_mark}
+use Rattle.arena.specs.Bools.{bool?, both_true}
+use Rattle.arena.specs.Numbers.{two}
+use Rattle.encoding.specs.Names.{empty_mark}
 use Rattle.arena.specs.Store.{Store}
 use Rattle.arena.specs.Place.{merge_s}
-use Rattle.layout.specs.Layout.{store_words, scratch_words, stop, count as contexts}
-use Rattle.layout.specs.Decode.{store_of}
-use Rattle.layout.specs.Encode.{words_of}
+use Rattle.encoding.specs.Layout.{store_words, scratch_words, stop, count as contexts}
+use Rattle.encoding.specs.Decode.{store_of}
+use Rattle.encoding.specs.Encode.{words_of}
 use Rattle.encoding.specs.Good.{GoodStore}
 use Rattle.encoding.specs.Encoded.{encoded, store_of_words}
 use Rattle.encoding.specs.Written.{words_length, words_count}
@@ -23,9 +23,9 @@ use Rattle.store.specs.Checks.{Check, given, unless}
 use Rattle.store.specs.Checks.Laws.{Clear, unless_first, unless_next, clear_goes}
 use Rattle.store.specs.Calls as Stores
 use Rattle.store.specs.Calls.{Reply, Left, kept, wrong_length, unsound_store, unknown_context, too_much_work, no_room, gives, gives_after}
-use Rattle.work.specs.Counted.{counting, count_of}
+use Rattle.store.specs.Counted.{counting, count_of}
 use Rattle.interning.specs.SingletonCall.{single_s, singleton_checks, singleton_call}
-use Rattle.contexts.specs.MergeCall.{merge_checks, merge_call}
+use Rattle.configs.specs.MergeCall.{merge_checks, merge_call}
 use Rattle.queries.specs.Queries.{answer_to}
 use Rattle.sets.specs.Config.{Config, config}
 use Rattle.sets.specs.Lists.{any}
@@ -42,10 +42,10 @@ use Rattle.groups.specs.Groups as Grouped
 use Rattle.groups.specs.Groups.{Group}
 use Rattle.groups.specs.Answers as Answers
 use Rattle.groups.specs.Reason.{reason}
-use Rattle.outputs.specs.Outputs.{subsets_length, alts_length, padded, group_words, subsets_words, alts_words}
-use Rattle.verdicts.specs.Calls as Verdicts
-use Rattle.verdicts.specs.Calls.{VerdictReply, VerdictLeft, most_stops, too_many_stops, conflicting_alt_subsets_call, conflicting_alts_call, unique_alt_call, single_viable_alt_call, all_subsets_conflict_call}
-use Rattle.verdicts.specs.Calls.{all_subsets_equal_call, verdict_call}
+use Rattle.reasons.specs.Outputs.{subsets_length, alts_length, padded, group_words, subsets_words, alts_words}
+use Rattle.reasons.specs.VerdictsCalls as Verdicts
+use Rattle.reasons.specs.VerdictsCalls.{VerdictReply, VerdictLeft, most_stops, too_many_stops, conflicting_alt_subsets_call, conflicting_alts_call, unique_alt_call, single_viable_alt_call, all_subsets_conflict_call}
+use Rattle.reasons.specs.VerdictsCalls.{all_subsets_equal_call, verdict_call}
 use Rattle.reasons.specs.Calls.{reason_words, why_call}
 use Rattle.readers.specs.Calls.{Name, Call, singleton, merge, query, fresh_set, add, close, subsets, conflicting_alts, unique_alt, single_viable_alt}
 use Rattle.readers.specs.Calls.{all_subsets_conflict, all_subsets_equal, verdict, why, Lent, Sized, of_set, of_subsets, words, Part, part, Got, refused, context, groups, plain, told}

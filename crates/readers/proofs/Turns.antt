@@ -3,9 +3,9 @@
 use Rattle.std.specs.Prelude.{◌≡◌, true, false, List, [], ◌∷◌, ◌++◌, ℕ, ◌<◌, eqb, length}
 use Rattle.std.proofs.Math.Path.{refl, ap}
 use Rattle.std.proofs.Common.{sym, subst, eq-eqb, ne_eqb}
-use Rattle.cases.specs.Numbers.{two}
-use Rattle.stacks.specs.Forest.{Forest, mem}
-use Rattle.stacks.specs.Rules.{Stacks}
+use Rattle.arena.specs.Numbers.{two}
+use Rattle.arena.specs.Forest.{Forest, mem}
+use Rattle.arena.specs.Rules.{Stacks}
 use Rattle.arena.specs.Store.{Store}
 use Rattle.arena.specs.Stands.{stands}
 use Rattle.arena.proofs.Placed.{Grew, grew_refl, grew_length}

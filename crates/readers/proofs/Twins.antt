@@ -7,17 +7,17 @@ use Rattle.std.proofs.Math.Bool.{true, false}
 use Rattle.std.proofs.lemmas.Bool.{false≢true}
 use mathlib.Core.List.{List, [], ◌∷◌, ◌++◌, map}
 use Prim.Native.Nat.{ℕ, zero, suc, ◌<◌}
-use Rattle.cases.specs.Numbers.{two, never}
-use Rattle.words.specs.Names.{empty_mark}
-use Rattle.stacks.specs.Forest.{Forest, mem}
-use Rattle.stacks.specs.Merge.{is_mark, merge_t}
+use Rattle.arena.specs.Numbers.{two, never}
+use Rattle.encoding.specs.Names.{empty_mark}
+use Rattle.arena.specs.Forest.{Forest, mem}
+use Rattle.arena.specs.Merge.{is_mark, merge_t}
 use Rattle.arena.specs.Store.{Node, end, dollar, push, Store, tree_of, tree, node_at, Found, at, nowhere}
 use Rattle.arena.specs.Kinds.{size}
 use Rattle.arena.proofs.Soundness.{Rise, Sound}
 use Rattle.arena.proofs.Trees.{node_rise, tree_node, tree_inj}
 use Rattle.arena.specs.Place.{merge_s}
 use Rattle.arena.proofs.Placed.{Grew, grew_length, grew_tree}
-use Rattle.layout.specs.Layout.{stop}
+use Rattle.encoding.specs.Layout.{stop}
 use Rattle.encoding.specs.Decide.{fits}
 use Rattle.store.specs.Checks.{Check, given, unless}
 use Rattle.store.specs.Calls as Stores
@@ -38,9 +38,9 @@ use Rattle.groups.specs.Answers as Answers
 use Rattle.groups.specs.Reason.{reason}
 use Rattle.groups.proofs.Renamed as Renamed
 use Rattle.groups.proofs.Renamed.{Each, more, moved, Twin, twin, OneToOne, twin_groups, twin_conflicting, twin_conflict, twin_equal, twin_viable, twin_unique, twin_verdict, twin_reason}
-use Rattle.outputs.specs.Outputs.{alts_length, padded, alts_words}
-use Rattle.verdicts.specs.Calls as Verdicts
-use Rattle.verdicts.specs.Calls.{most_stops}
+use Rattle.reasons.specs.Outputs.{alts_length, padded, alts_words}
+use Rattle.reasons.specs.VerdictsCalls as Verdicts
+use Rattle.reasons.specs.VerdictsCalls.{most_stops}
 use Rattle.readers.specs.Calls.{Name, Call, singleton, merge, query, fresh_set, add, close, subsets, conflicting_alts, unique_alt}
 use Rattle.readers.specs.Calls.{single_viable_alt, all_subsets_conflict, all_subsets_equal, verdict, why, of_store, of_set, of_subsets, words, Got, refused, context, groups, plain, told, reasoned}
 use Rattle.readers.proofs.Pure.{State, to, halt, part_of, singleton_to, merge_to, add_checks_of, addition_to, verdict_to, why_to, state_after}

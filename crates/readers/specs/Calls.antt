@@ -1,19 +1,19 @@
 -- To believe: what a reader calls, how it names contexts, and what each call of the library answers it and leaves.
 use Rattle.std.specs.Prelude.{◌≡◌, Bool, List, [], ◌∷◌, ℕ, zero, suc, length, get_or, take, drop}
-use Rattle.layout.specs.Layout.{scratch_words}
+use Rattle.encoding.specs.Layout.{scratch_words}
 use Rattle.store.specs.Calls as Stores
 use Rattle.store.specs.Calls.{Reply, Left}
 use Rattle.interning.specs.SingletonCall.{singleton_call}
-use Rattle.contexts.specs.MergeCall.{merge_call}
+use Rattle.configs.specs.MergeCall.{merge_call}
 use Rattle.queries.specs.Queries.{Question, query_call}
 use Rattle.sets.specs.Config.{config}
 use Rattle.sets.specs.Calls as Sets
 use Rattle.sets.specs.Calls.{SetReply, SetLeft, fresh_set_call, add_call, close_call}
 use Rattle.groups.specs.Reason.{Reason, stop, none, one, clash}
-use Rattle.outputs.specs.Outputs.{subsets_length, alts_length}
-use Rattle.verdicts.specs.Calls as Verdicts
-use Rattle.verdicts.specs.Calls.{VerdictReply, VerdictLeft, conflicting_alt_subsets_call, conflicting_alts_call, unique_alt_call, single_viable_alt_call, all_subsets_conflict_call, all_subsets_equal_call}
-use Rattle.verdicts.specs.Calls.{verdict_call}
+use Rattle.reasons.specs.Outputs.{subsets_length, alts_length}
+use Rattle.reasons.specs.VerdictsCalls as Verdicts
+use Rattle.reasons.specs.VerdictsCalls.{VerdictReply, VerdictLeft, conflicting_alt_subsets_call, conflicting_alts_call, unique_alt_call, single_viable_alt_call, all_subsets_conflict_call, all_subsets_equal_call}
+use Rattle.reasons.specs.VerdictsCalls.{verdict_call}
 use Rattle.reasons.specs.Calls.{why_call}
 
 -- "naming a context only as 0 or as an earlier answer of its own": by its place, from 0 on, in the list of 0 and the contexts among its answers; a

@@ -3,3 +3,9 @@
 -- Examples: two readers whose numbers differ, shared and alone, and who see the same.
 pub mod Calls
 pub mod Runs
+pub use Rattle.reasons.specs.Calls as ReasonsCalls
+pub use Rattle.reasons.specs.Outputs
+pub use Rattle.reasons.specs.Refused
+pub use Rattle.reasons.specs.Sentences
+pub use Rattle.reasons.specs.VerdictsCalls
+pub use Rattle.reasons.specs.VerdictsSentences

@@ -1,10 +1,10 @@
 -- To believe: the calls of several readers, one after another over one store made fresh once, and what each reader sees.
 use Rattle.std.specs.Prelude.{◌≡◌, Bool, true, false, List, [], ◌∷◌, ◌++◌, map, ℕ, suc, eqb}
-use Rattle.stacks.specs.Rules.{Stacks}
+use Rattle.arena.specs.Rules.{Stacks}
 use Rattle.arena.specs.Store.{Store}
 use Rattle.arena.specs.Stands.{stands}
-use Rattle.layout.specs.Layout.{store_words, blank}
-use Rattle.layout.specs.Decode.{store_of}
+use Rattle.encoding.specs.Layout.{store_words, blank}
+use Rattle.encoding.specs.Decode.{store_of}
 use Rattle.store.specs.Calls.{fresh_call}
 use Rattle.sets.specs.Layout.{set_words_length}
 use Rattle.sets.specs.Calls.{fresh_set_call}

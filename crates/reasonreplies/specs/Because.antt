@@ -1,17 +1,17 @@
 -- The reason's line and call, from what the parts leave. Nothing here has to be believed.
 use Rattle.std.specs.Prelude.{◌≡◌, refl, List, [], ◌∷◌, ℕ, ◌+◌, ◌*◌, ◌≤◌, length}
 use Rattle.std.proofs.Common.{◌∙◌, arith}
-use Rattle.layout.specs.Layout.{blank}
-use Rattle.groups.specs.Reason.{one, clash}
-use Rattle.outputs.specs.Outputs.{alts_length}
-use Rattle.verdicts.specs.Calls.{verdict_left}
+use Rattle.lines.specs.LayoutLayout.{blank}
+use Rattle.lines.specs.Reason.{one, clash}
+use Rattle.reasons.specs.Outputs.{alts_length}
+use Rattle.reasons.specs.VerdictsCalls.{verdict_left}
 use Rattle.reasons.specs.Calls.{why_call}
 use Rattle.reasons.specs.Replies.{told}
 use Rattle.reasons.specs.declared.answers.Reason.{Reason}
 use Rattle.lines.specs.Laid.{Wrote}
 use Rattle.lines.specs.Laid.Laws.{wrote_then, wrote_length}
 use Rattle.lines.specs.Lines.{line_bytes, spaced, reason_line}
-use Rattle.replies.specs.Replies.{verdict_line_of}
+use Rattle.verdictreplies.specs.Replies.{verdict_line_of}
 use Rattle.verdictreplies.specs.Figured.{Told, Piece, Upto}
 use Rattle.reasonreplies.specs.Spread.{Spread}
 

@@ -2,11 +2,11 @@
 use Rattle.std.specs.Prelude.{◌≡◌, refl, Bool, true, false, ◌&&◌, not, List, ℕ, ◌<◌, eqb}
 use Rattle.std.proofs.Common.{sym, ap, ◌∙◌, arith}
 use Rattle.std.proofs.Math.Path.{fun_ext}
-use Rattle.cases.specs.Bools.{bool_iff, never_both, is_false}
-use Rattle.sets.specs.Config.{Config}
-use Rattle.sets.specs.Layout.{config_at, config_count}
-use Rattle.sets.specs.Lists.{any}
-use Rattle.sets.specs.Words.{configs_in}
+use Rattle.words.specs.Bools.{bool_iff, never_both, is_false}
+use Rattle.groups.specs.Config.{Config}
+use Rattle.groups.specs.Layout.{config_at, config_count}
+use Rattle.groups.specs.SetsLists.{any}
+use Rattle.groups.specs.Words.{configs_in}
 use Rattle.groups.specs.Lists.{In}
 use Rattle.groups.specs.Lists.Laws.{in_some}
 use Rattle.groups.specs.Lists.Tests.{any_exact}

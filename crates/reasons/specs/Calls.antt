@@ -1,6 +1,6 @@
 -- To believe: the question for the reason, as a function of what came in; refused as the verdict is, and for an output that has not 257 words.
 use Rattle.std.specs.Prelude.{List, [], ◌∷◌, ℕ, length}
-use Rattle.sets.specs.Words.{set_of}
+use Rattle.groups.specs.Words.{set_of}
 use Rattle.groups.specs.Reason.{Reason, stop, none, one, clash, reason}
 use Rattle.outputs.specs.Outputs.{alts_length, padded}
 use Rattle.verdicts.specs.Calls.{VerdictLeft, because, read_call, too_many_stops}

@@ -3,9 +3,9 @@ use Rattle.std.specs.Prelude.{◌≡◌, refl, List, [], ◌∷◌, ◌++◌, �
 use Rattle.std.proofs.Common.{sym, ap₂, ◌∙◌, arith}
 use Rattle.std.proofs.Math.Path.{ap}
 use Rattle.std.proofs.Math.ListN.{length}
-use Rattle.layout.specs.Layout.{blank}
-use Rattle.sets.specs.Layout.{config_at, config_count, most_configs}
-use Rattle.sets.specs.Listed.{configs_length}
+use Rattle.store.specs.Layout.{blank}
+use Rattle.groups.specs.Layout.{config_at, config_count, most_configs}
+use Rattle.groups.specs.Listed.{configs_length}
 use Rattle.groups.specs.Lists.{which}
 use Rattle.groups.specs.Groups.{together, subset}
 use Rattle.groups.proofs.Rising.{alts_most}

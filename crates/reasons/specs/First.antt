@@ -3,11 +3,11 @@
 use Rattle.std.specs.Prelude.{◌≡◌, refl, Bool, true, false, not, List, [], ◌∷◌, ◌++◌, map, ℕ, zero, suc, ◌<◌}
 use Rattle.std.proofs.Common.{sym, ap, inl, inr, arith}
 use Rattle.std.proofs.Math.Path.{subst}
-use Rattle.cases.specs.Bools.{bool?}
-use Rattle.cases.specs.Numbers.{two}
-use Rattle.sets.specs.Config.{Config}
-use Rattle.sets.specs.Layout.{config_at}
-use Rattle.sets.specs.Words.{configs_in}
+use Rattle.words.specs.Bools.{bool?}
+use Rattle.words.specs.Numbers.{two}
+use Rattle.groups.specs.Config.{Config}
+use Rattle.groups.specs.Layout.{config_at}
+use Rattle.groups.specs.Words.{configs_in}
 use Rattle.groups.specs.Lists.{All, which}
 use Rattle.groups.specs.Lists.Tests.{which_yes, which_no}
 use Rattle.groups.specs.Groups.{together, firsts, subset, groups}

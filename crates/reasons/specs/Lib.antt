@@ -7,3 +7,7 @@ pub mod Clash
 pub mod Told
 pub mod Sentences
 pub mod Determined
+pub use Rattle.outputs.specs.Outputs
+pub use Rattle.verdicts.specs.Calls as VerdictsCalls
+pub use Rattle.verdicts.specs.Refused
+pub use Rattle.verdicts.specs.Sentences as VerdictsSentences

@@ -5,9 +5,9 @@ use Rattle.std.proofs.Common.{sym, ◌∙◌, arith}
 use Rattle.std.proofs.Math.Path.{ap}
 use Rattle.store.specs.Calls.{zeros}
 use Rattle.store.specs.Checks.Laws.{Clear, passed_clear, clear_passed}
-use Rattle.sets.specs.Config.{Config}
-use Rattle.sets.specs.Words.{set_of}
-use Rattle.sets.specs.Calls.{lent_lengths, lent_checks}
+use Rattle.groups.specs.Config.{Config}
+use Rattle.groups.specs.Words.{set_of}
+use Rattle.groups.specs.Calls.{lent_lengths, lent_checks}
 use Rattle.groups.specs.Answers as Answers
 use Rattle.groups.specs.Reason.{Reason, reason, Holds, NoEarlier}
 use Rattle.groups.specs.Reason as Reasons

@@ -1,9 +1,9 @@
 -- What each outcome of the walk comes to: the reason, and the words of its alternatives. Nothing here has to be believed.
 use Rattle.std.specs.Prelude.{◌≡◌, refl, true, false, List, [], ◌∷◌, ℕ, ◌<◌, length, get_or, take, drop, replicate}
 use Rattle.std.proofs.Common.{sym, ap, ap₂, ◌∙◌, arith, take_at}
-use Rattle.layout.specs.Layout.{blank}
-use Rattle.sets.specs.Config.{Config}
-use Rattle.sets.specs.Layout.{config_at, config_count, most_configs, set_words_length}
+use Rattle.store.specs.Layout.{blank}
+use Rattle.groups.specs.Config.{Config}
+use Rattle.groups.specs.Layout.{config_at, config_count, most_configs, set_words_length}
 use Rattle.groups.specs.Groups.{subset}
 use Rattle.groups.specs.Answers.{stopped}
 use Rattle.groups.specs.Reason.{Reason, stop, none, one, clash, reason}

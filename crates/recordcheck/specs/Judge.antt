@@ -1,7 +1,7 @@
 -- From the tests of a record to its judgement, and from record to record. Nothing here has to be believed.
 use Rattle.std.specs.Prelude.{◌≡◌, refl, Bool, true, false, List, ◌∷◌, ℕ, suc, ◌<◌, ◌≤◌, ◌+◌, ◌-◌, ◌*◌, length}
 use Rattle.std.proofs.Common.{sym, ap, ◌∙◌, arith}
-use Rattle.cases.specs.Numbers.{two}
+use Rattle.words.specs.Numbers.{two}
 use Rattle.arena.specs.Store.{find, nowhere}
 use Rattle.arena.proofs.Soundness.{Rise, Full}
 use Rattle.layout.specs.Layout.{scratch_words, most_entries, stop, kind, first, second, parent, state}

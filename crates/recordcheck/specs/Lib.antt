@@ -2,3 +2,5 @@
 pub mod Check
 pub mod Judge
 pub mod Fresh
+pub use Rattle.encoding.specs.Decoded
+pub use Rattle.encoding.specs.Reads

@@ -1,12 +1,12 @@
 -- The alternative of every record, by a walk over the list. Nothing here has to be believed.
 use Rattle.std.specs.Prelude.{◌≡◌, refl, Bool, true, false, ◌&&◌, List, [], ◌∷◌, map, ℕ, ◌<◌, eqb, length, get_or}
 use Rattle.std.proofs.Common.{sym, ap, ◌∙◌, arith, eq-eqb, ne_eqb}
-use Rattle.cases.specs.Numbers.{two}
+use Rattle.words.specs.Numbers.{two}
 use Rattle.sets.specs.Config.{Config}
 use Rattle.sets.specs.Lists.{all}
 use Rattle.setcheck.specs.Configs.{config_of}
 use Rattle.setcheck.specs.declared.config.AtnConfig.{AtnConfig}
-use Rattle.groups.specs.Answers.{Answer, none, only, agree, unique_alt}
+use Rattle.deciding.specs.Answers.{Answer, none, only, agree, unique_alt}
 
 abbrev pub no_config : AtnConfig
 no_config = record {

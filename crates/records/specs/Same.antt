@@ -4,15 +4,15 @@ use Rattle.std.proofs.Common.{sym, ◌∙◌}
 use Rattle.std.proofs.Math.Path.{ap}
 use Rattle.std.proofs.Math.Bool.{and-true}
 use mathlib.Core.List.{List, [], map}
-use Rattle.store.specs.Calls.{zeros}
-use Rattle.store.specs.Checks.Laws.{clear_passed}
+use Rattle.sets.specs.StoreCalls.{zeros}
+use Rattle.sets.specs.Checks.Laws.{clear_passed}
 use Rattle.sets.specs.Config.{Config}
 use Rattle.sets.specs.Words.{set_of}
 use Rattle.sets.specs.Calls.{lent_lengths, lent_checks}
 use Rattle.sets.proofs.Refusals.{SoundLent, lent_clear}
 use Rattle.setcheck.specs.Configs.{config_of}
 use Rattle.setcheck.specs.declared.config.AtnConfig.{AtnConfig}
-use Rattle.groups.specs.Answers.{unique_alt}
+use Rattle.deciding.specs.Answers.{unique_alt}
 use Rattle.deciding.specs.OneAlt.{one_alt}
 use Rattle.deciding.specs.OneAlt.Laws.{one_tells}
 use Rattle.deciding.specs.declared.inner.single.OneAlt.{OneAlt}

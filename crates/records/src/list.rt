@@ -1,7 +1,7 @@
 // A walk over the records. A reference to structs is proved by hand, so all stands in one function.
 ghost use Rattle.std.specs.Prelude.{◌≡◌, map};
 ghost use Rattle.setcheck.specs.Configs.{config_of};
-ghost use Rattle.groups.specs.Answers.{unique_alt};
+ghost use Rattle.deciding.specs.Answers.{unique_alt};
 ghost use Rattle.deciding.specs.OneAlt.{one_alt};
 
 use deciding::inner::single::OneAlt;

@@ -3,7 +3,7 @@
 pub mod Laws
 use Rattle.std.specs.Prelude.{◌≡◌, List, ℕ, ◌+◌, ◌-◌, ◌≤◌, length, take, drop}
 use Rattle.format.specs.Bytes.{u32_at}
-use Rattle.steps.specs.Steps.{script_replies}
+use Rattle.script.specs.Steps.{script_replies}
 use Rattle.replay.specs.declared.sample.Part.{Part}
 use Rattle.replay.specs.declared.sample.Part.TheVariants.{Found, Cut as no_part}
 use Rattle.replay.specs.declared.sample.Tally.{Tally}

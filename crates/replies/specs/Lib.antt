@@ -3,3 +3,12 @@
 pub mod Replies
 pub mod Zeros
 pub mod Stops
+pub use Rattle.contexts.specs.MergeCall
+pub use Rattle.figures.specs.Calls as FiguresCalls
+pub use Rattle.figures.specs.Outputs
+pub use Rattle.figures.specs.Same
+pub use Rattle.figures.specs.VerdictsCalls as Calls
+pub use Rattle.interning.specs.SingletonCall
+pub use Rattle.lines.specs.Laid
+pub use Rattle.lines.specs.Lines
+pub use Rattle.reasons.specs.Calls as ReasonsCalls

@@ -1,17 +1,17 @@
 -- To believe: what each record's call prints and leaves, as a function of the lent words.
 pub mod Laws
 use Rattle.std.specs.Prelude.{Bool, true, false, not, List, [], ◌∷◌, ◌++◌, ℕ, ◌-◌, eqb, ltb, length, get_or, take, drop}
-use Rattle.arena.specs.Store.{node_at}
+use Rattle.layout.specs.Store.{node_at}
 use Rattle.layout.specs.Layout.{scratch_words, blank}
 use Rattle.layout.specs.Decode.{store_of}
 use Rattle.store.specs.Checks.{given, unless}
 use Rattle.store.specs.Calls.{Reply, refused, done, context, count, state, holds, none, Left, zeros, asked}
-use Rattle.sets.specs.Calls.{SetReply, added, SetLeft, set_left, fresh_set_call, add_call, close_call}
-use Rattle.sets.specs.Calls.{refused as setRefused, done as setDone}
-use Rattle.verdicts.specs.Calls.{VerdictReply, says, alternative, written, summary, because, VerdictLeft, most_stops}
-use Rattle.verdicts.specs.Calls.{refused as verdictRefused}
+use Rattle.lines.specs.Calls.{SetReply, added, SetLeft, set_left, fresh_set_call, add_call, close_call}
+use Rattle.lines.specs.Calls.{refused as setRefused, done as setDone}
+use Rattle.figures.specs.VerdictsCalls.{VerdictReply, says, alternative, written, summary, because, VerdictLeft, most_stops}
+use Rattle.figures.specs.VerdictsCalls.{refused as verdictRefused}
 use Rattle.figures.specs.Calls.{figures_call}
-use Rattle.outputs.specs.Outputs.{alts_length}
+use Rattle.figures.specs.Outputs.{alts_length}
 use Rattle.reasons.specs.Calls.{why_call}
 use Rattle.interning.specs.SingletonCall.{singleton_call}
 use Rattle.contexts.specs.MergeCall.{merge_call}

@@ -5,7 +5,7 @@ use Rattle.std.proofs.Math.Seq.{take-append_seam}
 use Rattle.std.proofs.Common.{lt-ltb, le-ltb}
 use Rattle.layout.specs.Layout.{blank}
 use Rattle.store.specs.Checks.{unless}
-use Rattle.verdicts.specs.Calls.{most_stops}
+use Rattle.figures.specs.VerdictsCalls.{most_stops}
 use Rattle.format.specs.Format.{Record, singleton, merge, new_set, add, stops, verdict, show, close, why}
 use Rattle.lines.specs.Lines.{stops_line, refusal_line}
 use Rattle.replies.specs.Replies.{Lent, stop_words, held_stops, stops_call, call_of}

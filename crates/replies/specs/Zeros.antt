@@ -6,17 +6,17 @@ use Rattle.std.proofs.Math.Bool.{true, false, not}
 use mathlib.Core.List.{List, [], ◌∷◌}
 use Rattle.std.proofs.Math.Dec.{eqb}
 use borrow.Author.Tests.{eq-eqb}
-use Rattle.cases.specs.Bools.{bool?, and_left, and_right}
+use Rattle.words.specs.Bools.{bool?, and_left, and_right}
 use Rattle.layout.specs.Layout.{store_words, scratch_words, blank}
 use Rattle.store.specs.Checks.{Check, given, unless}
 use Rattle.store.specs.Checks.Laws.{absent, unless_first, unless_next}
 use Rattle.store.specs.Calls.{zeros, asked}
 use Rattle.store.specs.Calls.Laws.{zero_after}
-use Rattle.sets.specs.Layout.{set_words_length}
-use Rattle.sets.specs.Calls.{SetLeft, refusal, lent_lengths, lent_checks, add_checks, fresh_set_call, add_call, close_call}
-use Rattle.verdicts.specs.Calls.{VerdictLeft, read_refusal, read_call}
+use Rattle.lines.specs.Layout.{set_words_length}
+use Rattle.lines.specs.Calls.{SetLeft, refusal, lent_lengths, lent_checks, add_checks, fresh_set_call, add_call, close_call}
+use Rattle.figures.specs.VerdictsCalls.{VerdictLeft, read_refusal, read_call}
 use Rattle.figures.specs.Calls.{figures_call}
-use Rattle.outputs.specs.Outputs.{alts_length}
+use Rattle.figures.specs.Outputs.{alts_length}
 use Rattle.reasons.specs.Calls.{why_call}
 use Rattle.interning.specs.SingletonCall.{singleton_checks, singleton_call}
 use Rattle.contexts.specs.MergeCall.{merge_checks, merge_call}

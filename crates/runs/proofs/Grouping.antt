@@ -4,15 +4,15 @@ use Rattle.std.proofs.Common.{sym, ap, ◌∙◌, inl, inr}
 use Rattle.std.proofs.Math.Bool.{or-true, or-false, or_assoc}
 use mathlib.Core.List.Memᴰ
 use mathlib.Core.List.{List, [], ◌∷◌, ◌++◌, Memᴰ}
-use Rattle.cases.specs.Bools.{bool_iff, or_cases}
-use Rattle.cases.specs.Numbers.{never}
+use Rattle.stacks.specs.Bools.{bool_iff, or_cases}
+use Rattle.stacks.specs.Numbers.{never}
 use Rattle.arena.specs.Stands.{stands}
-use Rattle.layout.specs.Layout.{store_words, count as contexts}
-use Rattle.layout.specs.Decode.{store_of}
+use Rattle.encoding.specs.Layout.{store_words, count as contexts}
+use Rattle.encoding.specs.Decode.{store_of}
 use Rattle.encoding.specs.Decide.{sound}
-use Rattle.store.specs.Calls.{Accepts}
-use Rattle.contexts.specs.MergeCall.{merge_call}
-use Rattle.contexts.specs.Promises.{merge_is_union, merge_sound_after, merge_known_before, equal_exactly}
+use Rattle.interning.specs.Calls.{Accepts}
+use Rattle.configs.specs.MergeCall.{merge_call}
+use Rattle.configs.specs.Promises.{merge_is_union, merge_sound_after, merge_known_before, equal_exactly}
 use Rattle.runs.specs.Runs.{Event, merged, Step, merge, Run, begin, next, SameContexts, Answers, named, called, later}
 use Rattle.runs.proofs.Growth.{Whole, Grows, step_grows, run_grows}
 

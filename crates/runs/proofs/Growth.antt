@@ -1,19 +1,19 @@
 -- Every accepted call keeps the store sound and every older number's set. Nothing here has to be believed.
 use Rattle.std.specs.Prelude.{◌≡◌, refl, Bool, true, false, not, List, [], ◌∷◌, ℕ, ◌<◌, length}
 use Rattle.std.proofs.Common.{sym, ap, ◌∙◌, subst}
-use Rattle.cases.specs.Numbers.{two}
+use Rattle.stacks.specs.Numbers.{two}
 use Rattle.arena.specs.Stands.{stands}
-use Rattle.layout.specs.Layout.{store_words, count as contexts}
-use Rattle.layout.specs.Decode.{store_of}
+use Rattle.encoding.specs.Layout.{store_words, count as contexts}
+use Rattle.encoding.specs.Decode.{store_of}
 use Rattle.encoding.specs.Decide.{sound}
-use Rattle.store.specs.Checks.Laws.{by_unless}
-use Rattle.store.specs.Calls.{Reply, Left, kept, refusal, asked, Accepts}
-use Rattle.store.specs.Calls.Laws.{refusal_store}
+use Rattle.interning.specs.Checks.Laws.{by_unless}
+use Rattle.interning.specs.Calls.{Reply, Left, kept, refusal, asked, Accepts}
+use Rattle.interning.specs.Calls.Laws.{refusal_store}
 use Rattle.interning.proofs.Promises.{single_sound_after, single_older_kept}
-use Rattle.contexts.specs.MergeCall.{merge_call}
-use Rattle.sets.specs.Layout.{config_at, flag}
+use Rattle.configs.specs.MergeCall.{merge_call}
+use Rattle.configs.specs.Layout.{config_at, flag}
 use Rattle.configs.proofs.Sentences.{answer_merged, merged_call, inserted_store, closed_store}
-use Rattle.contexts.specs.Promises.{merge_sound_after, older_kept}
+use Rattle.configs.specs.Promises.{merge_sound_after, older_kept}
 use Rattle.runs.specs.Runs.{Event, Step, singleton, merge, query, add, close, Run, begin, next}
 
 -- the words of a sound store

@@ -3,7 +3,7 @@ use Rattle.std.specs.Prelude.{◌≡◌, refl, Bool, true, false, ℕ, ◌<◌, 
 use Rattle.std.proofs.Common.{sym, ap, ◌∙◌, subst}
 use mathlib.Core.List.Memᴰ
 use mathlib.Core.List.{List, [], ◌∷◌, Memᴰ}
-use Rattle.words.specs.Names.{empty_mark}
+use Rattle.encoding.specs.Names.{empty_mark}
 use Rattle.stacks.specs.Forest.{Forest, none, mark, over}
 use Rattle.stacks.specs.Canon.{Some, Canon}
 use Rattle.stacks.specs.Beneath.{ext}
@@ -11,13 +11,13 @@ use Rattle.stacks.specs.Merge.{merge_t}
 use Rattle.arena.proofs.Soundness.{Sound}
 use Rattle.arena.specs.Store.{tree}
 use Rattle.arena.proofs.Trees.{tree_canon, tree_inj}
-use Rattle.layout.specs.Layout.{count as contexts}
-use Rattle.layout.specs.Decode.{store_of}
-use Rattle.layout.specs.Decode.Laws.{store_length}
+use Rattle.encoding.specs.Layout.{count as contexts}
+use Rattle.encoding.specs.Decode.{store_of}
+use Rattle.encoding.specs.Decode.Laws.{store_length}
 use Rattle.encoding.specs.Decoded.{decoded}
 use Rattle.encoding.proofs.DecideLaws.{sound_true}
 use Rattle.interning.proofs.Promises.{single_tree, single_sound_after, parent_known}
-use Rattle.contexts.specs.Promises.{merge_tree, merge_sound_after, merge_known_before}
+use Rattle.configs.specs.Promises.{merge_tree, merge_sound_after, merge_known_before}
 use Rattle.runs.specs.Runs.{Event, merged, placed, other, Step, singleton, merge, query, add, close, Run, begin, next}
 use Rattle.runs.proofs.Growth.{Whole, Grows, step_grows, run_grows}
 

@@ -1,9 +1,9 @@
 -- Two groupings called one after the other, with other calls in between: a corollary of `one_number`. Nothing here has to be believed.
 use Rattle.std.specs.Prelude.{◌≡◌, true, false, List, [], ◌∷◌, ◌++◌, ℕ, length}
-use Rattle.layout.specs.Layout.{store_words}
+use Rattle.encoding.specs.Layout.{store_words}
 use Rattle.encoding.specs.Decide.{sound}
-use Rattle.store.specs.Calls.{Accepts}
-use Rattle.contexts.specs.MergeCall.{merge_call}
+use Rattle.interning.specs.Calls.{Accepts}
+use Rattle.configs.specs.MergeCall.{merge_call}
 use Rattle.runs.specs.Runs.{Event, merge, Run, begin, next, SameContexts, Answers, named, called, later}
 use Rattle.runs.proofs.Grouping.{one_number}
 

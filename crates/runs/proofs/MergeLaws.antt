@@ -2,8 +2,8 @@
 use Rattle.std.specs.Prelude.{◌≡◌, refl, Bool, true, false, ℕ, ◌<◌, eqb, length}
 use Rattle.std.proofs.Common.{sym, ap, ◌∙◌, arith}
 use mathlib.Core.List.{List, [], ◌∷◌, Memᴰ}
-use Rattle.cases.specs.Bools.{bool?}
-use Rattle.words.specs.Names.{empty_mark}
+use Rattle.stacks.specs.Bools.{bool?}
+use Rattle.encoding.specs.Names.{empty_mark}
 use Rattle.stacks.specs.Forest.{Forest, none, mark, over, mem}
 use Rattle.stacks.specs.Canon.{Some, Canon}
 use Rattle.stacks.specs.Beneath.{first, mem_first}
@@ -13,9 +13,9 @@ use Rattle.stacks.proofs.Algebra.{idem, comm, assoc}
 use Rattle.arena.specs.Store.{tree}
 use Rattle.arena.proofs.Identity.{tree_root}
 use Rattle.arena.specs.Stands.{stands}
-use Rattle.layout.specs.Layout.{store_words, count as contexts}
-use Rattle.layout.specs.Decode.{store_of}
-use Rattle.layout.specs.Decode.Laws.{store_length}
+use Rattle.encoding.specs.Layout.{store_words, count as contexts}
+use Rattle.encoding.specs.Decode.{store_of}
+use Rattle.encoding.specs.Decode.Laws.{store_length}
 use Rattle.encoding.specs.Decide.{sound}
 use Rattle.runs.specs.Runs.{Event, merged, placed, Run}
 use Rattle.runs.proofs.Growth.{Whole, run_grows}

@@ -1,11 +1,11 @@
 -- To believe: accepted calls made one after another in one store, and the contexts that the full merges behind an answer go back to.
 use Rattle.std.specs.Prelude.{◌≡◌, ◌↔◌, Bool, false, ℕ}
 use mathlib.Core.List.{List, [], ◌∷◌, ◌++◌, Memᴰ}
-use Rattle.store.specs.Calls.{Reply, zeros, asked, Accepts}
+use Rattle.interning.specs.Calls.{Reply, zeros, asked, Accepts}
 use Rattle.interning.specs.SingletonCall.{singleton_call}
-use Rattle.contexts.specs.MergeCall.{merge_call}
-use Rattle.sets.specs.Config.{Config}
-use Rattle.sets.specs.Calls.{done, set_left, Adds, add_call, close_call}
+use Rattle.configs.specs.MergeCall.{merge_call}
+use Rattle.configs.specs.Config.{Config}
+use Rattle.configs.specs.Calls.{done, set_left, Adds, add_call, close_call}
 
 -- what a call was: a merge of a and b, by wildcard or full-context, that answered c; a state r over the context p, which answered c; or any other
 pub data Event : Type 0 where

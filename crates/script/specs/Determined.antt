@@ -1,6 +1,6 @@
 -- Two answers that satisfy a contract for the same input are equal. Nothing here has to be believed.
 use Rattle.std.specs.Prelude.{◌≡◌, refl, Bool, true, false, List, ℕ}
-use Rattle.recordcheck.specs.Check.{Tells}
+use Rattle.lines.specs.Check.{Tells}
 use Rattle.steps.specs.Steps.{script_replies}
 
 -- a test has one answer

@@ -2,7 +2,7 @@
 use Rattle.std.specs.Prelude.{◌≡◌, refl, List, ◌++◌, ℕ, zero, suc, ◌-◌, ◌<◌, length}
 use Rattle.std.proofs.Common.{sym, ap, ◌∙◌, arith}
 use Rattle.lines.specs.Lines.{end_line}
-use Rattle.replies.specs.Replies.{Lent, Printed}
+use Rattle.setreplies.specs.Replies.{Lent, Printed}
 use Rattle.steps.specs.Steps.{fresh, goes, over, step_of, run_from, run_of, script_replies}
 use Rattle.steps.specs.Steps.Laws.{after?, step_forward, run_over, run_next}
 

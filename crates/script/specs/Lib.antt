@@ -3,3 +3,5 @@
 pub mod Leads
 pub mod Replayed
 pub mod Determined
+pub use Rattle.agreeing.specs.Agreeing
+pub use Rattle.steps.specs.Steps

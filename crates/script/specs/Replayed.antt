@@ -5,11 +5,11 @@ use Rattle.std.proofs.Math.Path.{ap}
 use mathlib.Core.List.{List, ◌++◌, append_assoc}
 use Rattle.std.proofs.Math.ListN.{take}
 use Rattle.std.proofs.Math.Seq.{take-append_seam}
-use Rattle.recordcheck.specs.Check.{Tells}
+use Rattle.lines.specs.Check.{Tells}
 use Rattle.lines.specs.Lines.{end_line}
 use Rattle.steps.specs.declared.run.Ran.{Ran}
 use Rattle.steps.specs.Answers.{after_of, wrote_of}
-use Rattle.replies.specs.Replies.{Lent, Printed}
+use Rattle.setreplies.specs.Replies.{Lent, Printed}
 use Rattle.steps.specs.Steps.{fresh, goes, over, step_of, script_replies}
 use Rattle.steps.specs.Made.{Step, Made, made_start, made_next, made_over_lem, made_reply}
 use Rattle.agreeing.specs.Agreeing.{follows}

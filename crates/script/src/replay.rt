@@ -1,6 +1,6 @@
 // A recorded answer held against what a script gives.
 ghost use Rattle.std.specs.Prelude.{◌≡◌};
-ghost use Rattle.recordcheck.specs.Check.{Tells};
+ghost use Rattle.lines.specs.Check.{Tells};
 ghost use Rattle.steps.specs.Steps.{script_replies};
 
 use agreeing::inner::agree::{agrees, agrees_last};

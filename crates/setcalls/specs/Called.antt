@@ -2,19 +2,19 @@
 use Rattle.std.specs.Prelude.{◌≡◌, Bool, not, ℕ}
 use Rattle.std.proofs.Math.Path.{refl}
 use mathlib.Core.List.{List, []}
-use Rattle.sets.specs.Calls.{add_call, close_call}
+use Rattle.setcheck.specs.Calls.{add_call, close_call}
 use Rattle.setcheck.specs.Configs.{config_of}
 use Rattle.setcheck.specs.declared.config.AtnConfig.{AtnConfig}
-use Rattle.layout.specs.Layout.{blank}
-use Rattle.outputs.specs.Outputs.{alts_length}
-use Rattle.figures.specs.Calls.{figures_call}
-use Rattle.reasons.specs.Calls.{why_call}
+use Rattle.setcheck.specs.Layout.{blank}
+use Rattle.setreplies.specs.Outputs.{alts_length}
+use Rattle.setreplies.specs.Calls.{figures_call}
+use Rattle.setreplies.specs.ReasonsCalls.{why_call}
 use Rattle.format.specs.declared.records.SetRecord.{SetRecord}
 use Rattle.format.specs.declared.records.SetRecord.TheVariants.{NewSet, Add, Verdict, Close, Why}
 use Rattle.format.specs.Answers.{set_call}
-use Rattle.lines.specs.Lines.{closed_line}
-use Rattle.replies.specs.Replies.{lent, held_stops, call_of}
-use Rattle.replies.specs.Replies.Laws.{Answered}
+use Rattle.setreplies.specs.Lines.{closed_line}
+use Rattle.setreplies.specs.Replies.{lent, held_stops, call_of}
+use Rattle.setreplies.specs.Replies.Laws.{Answered}
 use Rattle.setreplies.specs.Settled.{SetReplied, Renewed, on_set_lem}
 use Rattle.verdictreplies.specs.Figured.{Told, on_verdict_lem}
 

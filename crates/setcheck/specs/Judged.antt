@@ -1,12 +1,12 @@
 -- What the check of a set says of a config and of the set, and what it keeps from config to config. Nothing here has to be believed.
 use Rattle.std.specs.Prelude.{◌≡◌, refl, Bool, true, false, List, ℕ, suc, ◌<◌, ◌≤◌, ◌+◌, length, get_or}
 use Rattle.std.proofs.Common.{sym, ap, ◌∙◌, arith}
-use Rattle.cases.specs.Numbers.{two}
-use Rattle.arena.specs.Store.{at, nowhere}
+use Rattle.words.specs.Numbers.{two}
+use Rattle.layout.specs.Store.{at, nowhere}
 use Rattle.layout.specs.Layout.{scratch_words}
 use Rattle.sets.specs.Config.{Config}
 use Rattle.sets.specs.Lists.{any}
-use Rattle.cases.specs.Bools.{never_both}
+use Rattle.words.specs.Bools.{never_both}
 use Rattle.sets.specs.Layout.{most_configs, set_words_length, config_at, config_count}
 use Rattle.sets.specs.Sets.{key, empty_set, with_configs, has_semantic, dips}
 use Rattle.sets.specs.Sets.Laws.{key_of_same, same_of_key}

@@ -2,7 +2,7 @@
 use Rattle.std.specs.Prelude.{◌≡◌, Bool, true, false, List, [], ◌∷◌, ℕ, ◌<◌, ◌≤◌, ◌+◌, ◌*◌, ◌-◌, ◌/◌, ◌%◌, ◌^◌, length, get_or}
 use Rattle.std.proofs.Common.{sym, ap, arith}
 use Rattle.words.specs.Provenance.{id_of}
-use Rattle.arena.specs.Store.{Found, at, nowhere}
+use Rattle.layout.specs.Store.{Found, at, nowhere}
 use Rattle.layout.specs.Layout.{scratch_words}
 use Rattle.sets.specs.Config.{Config}
 use Rattle.sets.specs.Layout.{most_configs, set_words_length, config_at}

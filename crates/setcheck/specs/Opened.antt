@@ -10,15 +10,15 @@ use Rattle.words.specs.declared.refusals.Refusal.TheVariants.{WrongLength, Unsou
 use Rattle.layout.specs.Layout.{store_words, scratch_words, count as contexts}
 use Rattle.layout.specs.Decode.{store_of}
 use Rattle.layout.specs.Decode.Laws.{store_length}
-use Rattle.encoding.specs.Decide.{sound}
-use Rattle.index.specs.Grow.{index_frame}
-use Rattle.recordcheck.specs.Check.{Ready}
+use Rattle.store.specs.Decide.{sound}
+use Rattle.store.specs.Grow.{index_frame}
+use Rattle.store.specs.Check.{Ready}
 use Rattle.store.specs.Calls.{none, Left, zeros, refused as notSet, leaves}
 use Rattle.store.specs.Nested.{if_lengths, if_sound, checked}
 use Rattle.store.specs.Admit.{Opened, cleared}
 use Rattle.store.specs.declared.inner.admit.Admitted.{Admitted}
 use Rattle.store.specs.declared.inner.admit.Admitted.TheVariants.{Ready as ready, Refused}
-use Rattle.cases.specs.Bools.{bool?}
+use Rattle.words.specs.Bools.{bool?}
 use Rattle.sets.specs.Layout.{set_words_length, config_count}
 use Rattle.sets.specs.Words.{SoundSet}
 use Rattle.sets.proofs.Sound.{true_sound_set, sound_set_false}

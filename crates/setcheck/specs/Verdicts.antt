@@ -7,7 +7,7 @@ use Rattle.std.proofs.lemmas.Nat.Bits.{and_high}
 use Rattle.words.specs.Lent.{all_zero, cleared_range}
 use Rattle.words.specs.Lent.Laws.{length_cleared_range, cleared_range_before, cleared_range_inside, all_zero_at, all_zero_of}
 use Rattle.layout.specs.Layout.{scratch_words}
-use Rattle.cases.specs.Bools.{never_both}
+use Rattle.words.specs.Bools.{never_both}
 use Rattle.sets.specs.Layout.{most_configs, config_words, first_config, set_words_length, config_count, flag_word, flag}
 use Rattle.sets.specs.Sets.{empty_set, with_configs, has_semantic, dips}
 use Rattle.sets.specs.Words.{flags_of, configs_in, set_of, SoundSet}

@@ -2,9 +2,9 @@
 use Rattle.std.specs.Prelude.{◌≡◌, refl, List, [], ◌∷◌, ◌++◌, ℕ, zero, suc, ◌+◌, ◌*◌, ◌-◌, ◌<◌, ◌≤◌, length, set, replicate, take, drop}
 use Rattle.std.proofs.Common.{sym, ap, ◌∙◌, arith, add-one, lt-ltb, le-ltb}
 use Rattle.std.proofs.lemmas.List.Edits.{sets-eq}
-use Rattle.layout.specs.Layout.{blank}
-use Rattle.store.specs.Checks.{unless}
-use Rattle.verdicts.specs.Calls.{most_stops}
+use Rattle.lines.specs.LayoutLayout.{blank}
+use Rattle.lines.specs.Checks.{unless}
+use Rattle.replies.specs.Calls.{most_stops}
 use Rattle.format.specs.Bytes.{u32_at, words_at}
 use Rattle.format.specs.Bytes.Laws.{length_words, words_more}
 use Rattle.lines.specs.Laid.{laid, Wrote}

@@ -3,7 +3,7 @@ use Rattle.std.specs.Prelude.{◌≡◌, Bool, List, [], ℕ}
 use Rattle.std.proofs.Math.Path.{refl}
 use Rattle.words.specs.Refusals.{number}
 use Rattle.words.specs.declared.refusals.Refusal.{Refusal}
-use Rattle.sets.specs.Calls.{SetLeft, set_left, fresh_set_call}
+use Rattle.lines.specs.Calls.{SetLeft, set_left, fresh_set_call}
 use Rattle.contexts.specs.declared.merges.Tally.{Tally}
 use Rattle.configs.specs.Replies.{settled, added_left}
 use Rattle.configs.specs.declared.settle.Settled.{Settled}

@@ -6,11 +6,11 @@ use Rattle.std.proofs.Math.Bool.{Bool, or_assoc, or-true, or-false, and-false}
 use mathlib.Core.List.{List, [], ◌∷◌, ◌++◌}
 use Prim.Native.Nat.{ℕ, zero, suc, ◌<◌, ◌≤◌, max}
 use Rattle.std.proofs.Math.Dec.{ltb}
-use Rattle.cases.specs.Numbers.{two, three}
-use Rattle.arena.specs.Store.{at}
+use Rattle.encoding.specs.Numbers.{two, three}
+use Rattle.encoding.specs.Store.{at}
 use Rattle.sets.specs.Config.{Config}
 use Rattle.sets.specs.Lists.{any}
-use Rattle.cases.specs.Bools.{bool?, is_false, either}
+use Rattle.encoding.specs.Bools.{bool?, is_false, either}
 use Rattle.sets.specs.Layout.{config_at, config_count}
 use Rattle.sets.specs.Sets.{key, same_keys, held, joined, joined_all, has_semantic, dips}
 use Rattle.sets.specs.Sets.Laws.{key_of_same, held_last, held_more}

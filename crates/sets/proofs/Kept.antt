@@ -4,7 +4,7 @@ use Rattle.std.proofs.Common.{sym, ap, ◌∙◌, arith, length-append, ltb-true
 use mathlib.Core.List.{List, [], ◌∷◌, ◌++◌}
 use Rattle.sets.specs.Config.{Config}
 use Rattle.sets.specs.Lists.{any, all}
-use Rattle.cases.specs.Bools.{bool?, bool_iff, both_true, and_left, and_right}
+use Rattle.encoding.specs.Bools.{bool?, bool_iff, both_true, and_left, and_right}
 use Rattle.sets.specs.Lists.Laws.{all_more}
 use Rattle.sets.specs.Layout.{most_configs}
 use Rattle.sets.specs.Sets.{Set, key, same_keys, with_configs, joined, joined_all}

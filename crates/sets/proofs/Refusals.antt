@@ -4,13 +4,13 @@ use Rattle.std.proofs.Math.Path.{refl, ap}
 use Rattle.std.proofs.Common.{sym, ◌∙◌, arith}
 use Rattle.std.proofs.Math.Bool.{not}
 use borrow.Author.Tests.{eq-eqb, ne_eqb, eqb-true, leb-true, le-leb, not-true, not-false}
-use Rattle.cases.specs.Numbers.{two}
-use Rattle.layout.specs.Layout.{store_words, scratch_words, count as contexts}
-use Rattle.layout.specs.Sound.{SoundWords}
+use Rattle.encoding.specs.Numbers.{two}
+use Rattle.encoding.specs.Layout.{store_words, scratch_words, count as contexts}
+use Rattle.encoding.specs.Sound.{SoundWords}
 use Rattle.encoding.proofs.DecideLaws.{sound_true, true_sound}
 use Rattle.store.specs.Calls.{zeros}
 use Rattle.sets.specs.Config.{Config}
-use Rattle.cases.specs.Bools.{never_both, both_true, and_left, and_right}
+use Rattle.encoding.specs.Bools.{never_both, both_true, and_left, and_right}
 use Rattle.sets.specs.Lists.{any}
 use Rattle.sets.specs.Layout.{most_configs, set_words_length, config_at, config_count}
 use Rattle.sets.specs.Sets.{key, same_keys}
@@ -18,7 +18,7 @@ use Rattle.sets.specs.Sets.Laws.{same_of_key, other_key}
 use Rattle.sets.specs.Words.{set_of, SoundSet}
 use Rattle.sets.specs.Listed.{configs_length, any_none, none_any}
 use Rattle.sets.proofs.Sound.{sound_set_true, true_sound_set}
-use Rattle.arena.specs.Store.{at}
+use Rattle.encoding.specs.Store.{at}
 use Rattle.store.specs.Checks.{Check, unless, order, due}
 use Rattle.store.specs.Checks.Laws.{in_order, Clear, due_leaves, refused_due}
 use Rattle.sets.specs.Calls.{refused, done, added, SetLeft, refusal, lent_lengths, lent_checks, add_checks, fresh_set_call, add_call, close_call}

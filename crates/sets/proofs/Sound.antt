@@ -9,7 +9,7 @@ use borrow.Author.Tests.{ne_eqb, eqb-false, not-true, ltb-true, lt-ltb, leb-true
 use Rattle.encoding.specs.Decide.{same_words}
 use Rattle.encoding.proofs.DecideLaws.{same_words_lem, words_same}
 use Rattle.sets.specs.Lists.{all}
-use Rattle.cases.specs.Bools.{bool_iff, is_false, both_true, and_left, and_right}
+use Rattle.encoding.specs.Bools.{bool_iff, is_false, both_true, and_left, and_right}
 use Rattle.sets.specs.Layout.{most_configs, set_words_length, config_at, config_count, flag_word, flag}
 use Rattle.sets.specs.Sets.{Set, has_semantic, dips}
 use Rattle.sets.specs.Words.{flags_of, set_words, configs_in, set_of, SoundSet, distinct, good_set, sound_set}

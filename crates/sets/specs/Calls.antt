@@ -1,11 +1,11 @@
 -- To believe: the calls on a set as functions of what came in, document 01's refusals in its order of checking.
 use Rattle.std.specs.Prelude.{◌≡◌, Bool, true, false, not, ◌&&◌, List, [], ◌∷◌, ℕ, ◌-◌, eqb, ltb, leb, length}
-use Rattle.layout.specs.Layout.{store_words, scratch_words, count as contexts}
-use Rattle.layout.specs.Decode.{store_of}
-use Rattle.layout.specs.Encode.{words_of}
+use Rattle.encoding.specs.Layout.{store_words, scratch_words, count as contexts}
+use Rattle.encoding.specs.Decode.{store_of}
+use Rattle.encoding.specs.Encode.{words_of}
 use Rattle.encoding.specs.Decide.{sound}
-use Rattle.arena.specs.Store.{Store, at, nowhere}
-use Rattle.work.specs.Counted.{Outcome, done as finished, standing, counting, count_of}
+use Rattle.encoding.specs.Store.{Store, at, nowhere}
+use Rattle.store.specs.Counted.{Outcome, done as finished, standing, counting, count_of}
 use Rattle.store.specs.Calls.{zeros, too_much_work, no_room}
 use Rattle.sets.specs.Config.{Config}
 use Rattle.sets.specs.Lists.{any}

@@ -6,9 +6,9 @@ use Prim.Native.Nat.{ℕ, zero, suc, ◌<◌, ◌≤◌, ◌+◌, ◌-◌}
 use native.Mathlib.Omega.{arith}
 use Rattle.std.proofs.Math.ListN.{length-set}
 use Rattle.std.proofs.Math.Seq.{get_or-set_same, get_or-set_other}
-use Rattle.cases.specs.Numbers.{two}
-use Rattle.arena.specs.Store.{Found, at, nowhere}
-use Rattle.cases.specs.Bools.{bool?}
+use Rattle.encoding.specs.Numbers.{two}
+use Rattle.encoding.specs.Store.{Found, at, nowhere}
+use Rattle.encoding.specs.Bools.{bool?}
 
 -- the last of the first n that passes the test
 unfoldable pub last : (ℕ → Bool) → ℕ → Found

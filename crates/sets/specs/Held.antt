@@ -6,7 +6,7 @@ use mathlib.Core.List.{List, [], ◌∷◌, ◌++◌, append_assoc, flat_map}
 use Prim.Native.Nat.{ℕ, zero, suc, ◌<◌, ◌≤◌, ◌+◌, ◌*◌, ◌-◌}
 use Rattle.std.proofs.Math.ListN.{length, get_or, length-append}
 use Rattle.std.proofs.Math.Seq.{take_at, get_or-append-add}
-use Rattle.layout.specs.Layout.{blank}
+use Rattle.encoding.specs.Layout.{blank}
 use Rattle.encoding.specs.Writes.{length_blank, get_or_blank}
 use Rattle.sets.specs.Config.{Config}
 use Rattle.sets.specs.Layout.{most_configs, config_words, first_config, set_words_length, fields, field, config_at, config_count, flag_word, flag}

@@ -7,10 +7,10 @@ use Prim.Native.Nat.{ℕ, zero, suc, ◌<◌}
 use native.Mathlib.Omega.{arith}
 use Rattle.std.proofs.lemmas.List.{get_or_at}
 use borrow.Author.Tests.{not-true}
-use Rattle.cases.specs.Numbers.{two}
+use Rattle.encoding.specs.Numbers.{two}
 use Rattle.sets.specs.Config.{Config}
 use Rattle.sets.specs.Lists.{any, all}
-use Rattle.cases.specs.Bools.{is_false, never_both, either, or_right, both_true, and_left, and_right}
+use Rattle.encoding.specs.Bools.{is_false, never_both, either, or_right, both_true, and_left, and_right}
 use Rattle.sets.specs.Lists.Laws.{any_more, all_more}
 use Rattle.sets.specs.Layout.{config_at}
 use Rattle.sets.specs.Sets.{key, same_keys}

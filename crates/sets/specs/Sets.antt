@@ -1,9 +1,9 @@
 -- To believe: a config set, the key of a config, and what `add` makes of a set, in document 01's words.
 pub mod Laws
 use Rattle.std.specs.Prelude.{Bool, true, false, not, List, [], ◌∷◌, ◌++◌, map, ℕ, max, eqb, ltb}
-use Rattle.words.specs.Provenance.{id_of, merged_marks}
-use Rattle.arena.specs.Store.{Store, Found, at, nowhere}
-use Rattle.arena.specs.Place.{merge_s}
+use Rattle.encoding.specs.Provenance.{id_of, merged_marks}
+use Rattle.encoding.specs.Store.{Store, Found, at, nowhere}
+use Rattle.encoding.specs.Place.{merge_s}
 use Rattle.encoding.specs.Decide.{same_words}
 use Rattle.sets.specs.Config.{Config, config}
 use Rattle.sets.specs.Lists.{any}

@@ -1,7 +1,7 @@
 -- To believe: the words of a set, the set that words hold, and when words are sound.
 use Rattle.std.specs.Prelude.{◌≡◌, ◌↔◌, Bool, true, false, not, ◌&&◌, ℕ, zero, suc, ◌<◌, ◌≤◌, ◌+◌, ◌*◌, ◌-◌, ltb, leb, length, get_or}
 use mathlib.Core.List.{List, [], ◌∷◌, ◌++◌, flat_map}
-use Rattle.layout.specs.Layout.{blank}
+use Rattle.encoding.specs.Layout.{blank}
 use Rattle.encoding.specs.Decide.{same_words}
 use Rattle.sets.specs.Config.{Config}
 use Rattle.sets.specs.Lists.{any, all}

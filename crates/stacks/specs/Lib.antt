@@ -6,3 +6,5 @@ pub mod Merge
 pub mod Rules
 pub mod Finite
 pub mod Losses
+pub use Rattle.cases.specs.Bools
+pub use Rattle.cases.specs.Numbers

@@ -4,7 +4,7 @@ use Rattle.std.proofs.Math.Path.{refl, ap}
 use mathlib.Core.List.{List, []}
 use native.Mathlib.Omega.{arith}
 use Rattle.std.proofs.Common.{lt-ltb, le-ltb}
-use Rattle.cases.specs.Numbers.{below?, never}
+use Rattle.words.specs.Numbers.{below?, never}
 use Rattle.layout.specs.Layout.{blank, used, count as contexts}
 use Rattle.layout.specs.Encode.{put_counts, put_node, written, words_of}
 use Rattle.store.specs.Checks.Laws.{by_unless}
@@ -15,8 +15,8 @@ use Rattle.sets.specs.Calls.{SetLeft, add_call, close_call}
 use Rattle.sets.proofs.Refusals.{refusal_keeps}
 use Rattle.interning.specs.SingletonCall.{singleton_call}
 use Rattle.interning.proofs.Promises.{singleton_figure}
-use Rattle.contexts.specs.MergeCall.{merge_call}
-use Rattle.contexts.specs.Promises.{merge_figure}
+use Rattle.configs.specs.MergeCall.{merge_call}
+use Rattle.configs.specs.Promises.{merge_figure}
 use Rattle.configs.proofs.Sentences.{add_figure}
 use Rattle.format.specs.Format.{Record, singleton, merge, new_set, add, stops, verdict, show, close, why, Reading, found, ended, malformed, read_at}
 use Rattle.lines.specs.Lines.{numbers_line, end_line}

@@ -5,7 +5,7 @@ use Rattle.std.proofs.Common.{◌∙◌, eq-eqb}
 use mathlib.Core.List.{List, [], ◌∷◌, ◌++◌, append_assoc}
 use Prim.Native.Nat.{ℕ, suc, ◌+◌, ◌≤◌}
 use native.Mathlib.Omega.{arith}
-use Rattle.arena.specs.Store.{dollar}
+use Rattle.layout.specs.Store.{dollar}
 use Rattle.layout.specs.Layout.{store_words, scratch_words, blank}
 use Rattle.layout.specs.Encode.{words_of}
 use Rattle.store.specs.Calls.{Reply, fresh_call}

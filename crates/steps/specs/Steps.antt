@@ -1,7 +1,7 @@
 -- To believe: what a script does, record by record, as functions of its bytes and of the lent words.
 pub mod Laws
 use Rattle.std.specs.Prelude.{true, false, List, [], ◌∷◌, ◌++◌, ℕ, zero, suc, ltb, length}
-use Rattle.arena.specs.Store.{dollar}
+use Rattle.layout.specs.Store.{dollar}
 use Rattle.layout.specs.Encode.{words_of}
 use Rattle.store.specs.Calls.{zeros}
 use Rattle.sets.specs.Sets.{empty_set}

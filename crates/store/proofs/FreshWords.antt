@@ -2,8 +2,8 @@
 use Rattle.std.specs.Prelude.{◌≡◌, ◌≢◌, List, [], ◌∷◌, ℕ, length, get_or, set, replicate}
 use Rattle.std.proofs.Common.{◌∙◌, arith, get_or-set_other, eq-eqb, ne_eqb}
 use Rattle.std.proofs.lemmas.List.{set-get_or}
-use Rattle.arena.specs.Store.{dollar}
-use Rattle.arena.specs.Room.{pool, room}
+use Rattle.layout.specs.Store.{dollar}
+use Rattle.layout.specs.Room.{pool, room}
 use Rattle.layout.specs.Layout.{store_words, blank}
 use Rattle.layout.specs.Encode.{put_counts, put_node, written, words_of}
 use Rattle.encoding.specs.Writes.{get_or_blank}

@@ -5,12 +5,12 @@ use Rattle.words.specs.declared.refusals.Refusal.{Refusal}
 use Rattle.words.specs.declared.refusals.Refusal.TheVariants.{WrongLength, UnsoundStore, UnsoundSet, TooManyStops, ReadOnlySet, UnknownContext, StateOutOfRange, FullSet, FullStore, TooMuchWork}
 use Rattle.words.specs.declared.refusals.Refusal.TheVariants.{MalformedRecord}
 use Rattle.words.specs.Refusals.{number}
-use Rattle.arena.specs.Store.{dollar}
+use Rattle.layout.specs.Store.{dollar}
 use Rattle.layout.specs.Encode.{words_of}
 use Rattle.encoding.specs.Good.Laws.{fresh_good}
 use Rattle.encoding.specs.Decide.{sound}
 use Rattle.encoding.proofs.DecideLaws.{words_sound}
-use Rattle.cases.specs.Numbers.{two, never}
+use Rattle.words.specs.Numbers.{two, never}
 use Rattle.layout.specs.Layout.{store_words}
 use Rattle.store.proofs.FreshWords.{fresh_words, fresh_refused}
 use Rattle.store.specs.Calls.{Reply, refused, done, fresh_call}

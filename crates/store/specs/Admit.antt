@@ -9,7 +9,7 @@ use Rattle.words.specs.declared.refusals.Refusal.TheVariants.{UnknownContext}
 use Rattle.layout.specs.Layout.{store_words, scratch_words, blank, count}
 use Rattle.layout.specs.Sound.{SoundWords}
 use Rattle.encoding.proofs.DecideLaws.{sound_false, true_sound}
-use Rattle.recordcheck.specs.Check.{Ready}
+use Rattle.storecheck.specs.Check.{Ready}
 use Rattle.store.specs.Calls.{refused, Left, leaves, zeros, kept}
 use Rattle.store.specs.Nested.{if_lengths, if_sound, if_known, checked}
 use Rattle.store.specs.declared.inner.admit.Admitted.{Admitted}

@@ -4,7 +4,7 @@ use Rattle.std.specs.Prelude.{◌≡◌, ◌↔◌, List, ℕ, ◌<◌, length, 
 use Rattle.std.proofs.Common.{sym, ◌∙◌, arith}
 use Rattle.words.specs.declared.refusals.Refusal.{Refusal}
 use Rattle.words.specs.Refusals.{number}
-use Rattle.arena.specs.Store.{at}
+use Rattle.layout.specs.Store.{at}
 use Rattle.layout.specs.Layout.{store_words, count}
 use Rattle.layout.specs.Sound.{SoundWords}
 use Rattle.store.specs.Nested.{asked_nested}

@@ -1,7 +1,7 @@
 -- To believe: what a call leaves, as a function of what came in: document 01's table of refusals, in its order of checking.
 pub mod Laws
 use Rattle.std.specs.Prelude.{◌≡◌, Bool, true, false, not, ◌&&◌, List, [], ◌∷◌, ℕ, ◌-◌, eqb, ltb, length}
-use Rattle.arena.specs.Store.{Store, dollar}
+use Rattle.layout.specs.Store.{Store, dollar}
 use Rattle.layout.specs.Layout.{store_words, scratch_words, blank, count as contexts}
 use Rattle.layout.specs.Encode.{words_of}
 use Rattle.encoding.specs.Decide.{sound, fits}

@@ -1,7 +1,7 @@
 -- To believe: checks in order, and the first that a call does not pass.
 pub mod Laws
 use Rattle.std.specs.Prelude.{Bool, true, false, List, [], ◌∷◌, ℕ}
-use Rattle.arena.specs.Store.{Found, at, nowhere}
+use Rattle.layout.specs.Store.{Found, at, nowhere}
 
 -- a refusal's number, and does its reason hold
 pub record Check : Type 0 where

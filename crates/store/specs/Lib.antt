@@ -4,3 +4,11 @@ pub mod Nested
 pub mod Admit
 pub mod Asks
 pub mod Renewed
+pub use Rattle.encoding.specs.Decide
+pub use Rattle.encoding.specs.Decoded
+pub use Rattle.encoding.specs.Reads
+pub use Rattle.layout.specs.Layout
+pub use Rattle.layout.specs.Store
+pub use Rattle.storecheck.specs.Check
+pub use Rattle.storecheck.specs.Grow
+pub use Rattle.work.specs.Counted

@@ -2,8 +2,8 @@
 use Rattle.std.specs.Prelude.{◌≡◌, true, false, not, ◌&&◌, List, [], ◌∷◌, ℕ, ltb, length}
 use Rattle.std.proofs.Common.{ap, ◌∙◌}
 use Rattle.std.proofs.Math.Dec.{eqb}
-use Rattle.cases.specs.Bools.{bool?}
-use Rattle.arena.specs.Store.{Store}
+use Rattle.words.specs.Bools.{bool?}
+use Rattle.layout.specs.Store.{Store}
 use Rattle.layout.specs.Layout.{store_words, scratch_words, count as contexts}
 use Rattle.layout.specs.Decode.{store_of}
 use Rattle.encoding.specs.Decide.{sound, fits}

@@ -2,7 +2,7 @@
 use Rattle.std.specs.Prelude.{◌≡◌, refl, ◌⊎◌, Bool, true, false, List, [], ℕ, suc, ◌<◌, ◌≤◌, ◌+◌, ◌*◌, ◌-◌, length}
 use Rattle.std.proofs.Common.{sym, ◌∙◌, inl, inr}
 use native.Mathlib.Omega.{arith}
-use Rattle.cases.specs.Numbers.{two}
+use Rattle.words.specs.Numbers.{two}
 use Rattle.words.specs.Hash.{hash_of, empty_words}
 use Rattle.words.specs.Lent.{all_zero, cleared_range}
 use Rattle.words.specs.Lent.Laws.{all_zero_at, all_zero_of}
@@ -14,9 +14,9 @@ use Rattle.layout.specs.Layout.{store_words, scratch_words, count, used, kind, f
 use Rattle.layout.specs.Decode.{node_in, store_in, store_of}
 use Rattle.layout.specs.Decode.Laws.{store_length, store_node, node_zero}
 use Rattle.layout.specs.Sound.{SoundWords}
-use Rattle.encoding.specs.Reads.{lengths, lengths_zero, single_reads, array_entries, array_fits, kind?, Sized, zeroth, several, lengths_pool_of, first_lengths}
-use Rattle.encoding.specs.Reads.{single as one}
-use Rattle.encoding.specs.Decoded.{store_sound}
+use Rattle.recordcheck.specs.Reads.{lengths, lengths_zero, single_reads, array_entries, array_fits, kind?, Sized, zeroth, several, lengths_pool_of, first_lengths}
+use Rattle.recordcheck.specs.Reads.{single as one}
+use Rattle.recordcheck.specs.Decoded.{store_sound}
 use Rattle.index.specs.Hash.{node_hash}
 use Rattle.index.specs.Writes.{put_index}
 use Rattle.index.specs.Grow.{index_empty, index_add}
@@ -55,7 +55,7 @@ unfolding store_in
 sound_record w v c a h =
     let new : Sound (store_in w (suc c)) = store_sound w v (suc c) h in
     kind? w v c h
-    (λ k. absurd (omega (arith, Rattle.encoding.specs.Reads.kind_zero w v c h k)))
+    (λ k. absurd (omega (arith, Rattle.recordcheck.specs.Reads.kind_zero w v c h k)))
     (λ k. let r = single_reads w v c h k in single k r.0 r.1 new.2)
     (λ k. array k (v.long c h k) (first_lengths w v c h k) (omega (arith, array_fits w v c h k, v.counted.2)) (array_entries w v c h k) new.2)
 

@@ -1,7 +1,7 @@
 -- To believe: the words that `trace` leaves.
 pub mod Laws
 use Rattle.std.specs.Prelude.{◌≡◌, Bool, true, false, List, ℕ}
-use Rattle.replies.specs.Replies.{Lent}
+use Rattle.steps.specs.Replies.{Lent}
 use Rattle.steps.specs.Steps.{fresh, run_from, run_of}
 
 -- those that the script leads to; or, where a write failed, those after some of its steps

@@ -3,7 +3,7 @@
 #![tactic(auto)]
 
 ghost use Rattle.std.specs.Prelude.{◌≤◌, length, IfOk, IsOk, IsTrue, ◌↔◌};
-ghost use Rattle.replies.specs.Replies.{lent};
+ghost use Rattle.steps.specs.Replies.{lent};
 ghost use Rattle.trace.specs.Traced.{Traced};
 
 use layout::{SCRATCH_WORDS, STORE_WORDS};

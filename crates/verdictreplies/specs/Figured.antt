@@ -5,8 +5,8 @@ use Rattle.std.proofs.Common.{sym, ap, ◌∙◌, arith, length-drop, take_all}
 use mathlib.Core.List.{List, [], ◌∷◌}
 use Rattle.words.specs.Refusals.{number}
 use Rattle.words.specs.declared.refusals.Refusal.{Refusal}
-use Rattle.groups.specs.Answers.{Answer}
-use Rattle.verdicts.specs.Calls.{VerdictLeft, verdict_left, summary}
+use Rattle.lines.specs.Answers.{Answer}
+use Rattle.figures.specs.VerdictsCalls.{VerdictLeft, verdict_left, summary}
 use Rattle.figures.specs.Calls.{figures_call}
 use Rattle.figures.specs.Replies.{told, summary_of}
 use Rattle.figures.specs.declared.answers.Figures.{Figures}

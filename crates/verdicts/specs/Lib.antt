@@ -4,3 +4,5 @@ pub mod Replies
 pub mod Refused
 pub mod Opened
 pub mod Sentences
+pub use Rattle.groups.specs.Answers
+pub use Rattle.outputs.specs.Outputs

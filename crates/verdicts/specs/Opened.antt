@@ -4,10 +4,10 @@ use Rattle.std.proofs.Math.Path.{sym, ap}
 use Rattle.std.proofs.Common.{◌∙◌, eq-eqb, ne_eqb}
 use Rattle.std.proofs.Math.Bool.{and-true, and-false}
 use mathlib.Core.List.{List, [], ◌∷◌}
-use Rattle.cases.specs.Numbers.{two}
+use Rattle.words.specs.Numbers.{two}
 use Rattle.words.specs.Refusals.{number}
 use Rattle.words.specs.declared.refusals.Refusal.{Refusal}
-use Rattle.layout.specs.Layout.{scratch_words}
+use Rattle.store.specs.Layout.{scratch_words}
 use Rattle.store.specs.Calls.{zeros}
 use Rattle.store.specs.Admit.{cleared}
 use Rattle.store.specs.declared.inner.admit.Admitted.TheVariants.{Ready as ready, Refused}

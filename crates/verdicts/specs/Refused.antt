@@ -2,8 +2,8 @@
 use Rattle.std.specs.Prelude.{◌≡◌, refl, ◌↔◌, Bool, true, ℕ}
 use Rattle.std.proofs.Common.{sym, ap, ◌∙◌, arith, eq-eqb, ne_eqb}
 use mathlib.Core.List.{List, []}
-use Rattle.cases.specs.Numbers.{two}
-use Rattle.arena.specs.Store.{at}
+use Rattle.words.specs.Numbers.{two}
+use Rattle.store.specs.Store.{at}
 use Rattle.store.specs.Calls.{zeros}
 use Rattle.store.specs.Checks.{Check, order, due}
 use Rattle.store.specs.Checks.Laws.{in_order, due_leaves, refused_due}

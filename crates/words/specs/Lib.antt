@@ -6,3 +6,5 @@ pub mod Names
 pub mod Compact
 pub mod Provenance
 pub mod Refusals
+pub use Rattle.cases.specs.Bools
+pub use Rattle.cases.specs.Numbers

@@ -7,7 +7,7 @@ use Rattle.arena.proofs.Soundness.{Sound}
 use Rattle.arena.proofs.PlaceLaws.{ahead}
 use Rattle.arena.proofs.Placed.{Grew, grew_refl, grew_trans, grew_length, grew_tree}
 use Rattle.arena.proofs.RoomLaws.{room_grew}
-use Rattle.layout.specs.Ceilings.{Fits}
+use Rattle.encoding.specs.Ceilings.{Fits}
 use Rattle.work.specs.Counted.{most_merges, most_results, Result, State, Outcome, done, refused, and_then, before}
 
 -- c stands for the merge of a and b

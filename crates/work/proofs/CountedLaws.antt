@@ -4,7 +4,7 @@ use Rattle.std.proofs.Common.{ap, arith}
 use Rattle.std.proofs.lemmas.Bool.{false≢true}
 use Rattle.std.proofs.Math.Nat.{min-eq_left, min-eq_right, max-eq_left, max-eq_right}
 use borrow.Author.Tests.{eqb-true, lt-ltb, le-ltb}
-use Rattle.cases.specs.Numbers.{below?}
+use Rattle.stacks.specs.Numbers.{below?}
 use Rattle.arena.specs.Store.{Node, push, Found, at, nowhere}
 use Rattle.work.specs.Counted.{Result, State, Outcome, done, refused, and_then, before, Merge, walk, too_much}
 

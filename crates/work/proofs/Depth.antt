@@ -6,7 +6,7 @@ use Rattle.std.proofs.Math.Bool.{true, false}
 use Prim.Native.Nat.{ℕ, zero, suc, ◌<◌, ◌≤◌, ◌+◌, min, max}
 use Rattle.std.proofs.Math.Dec.{eqb, ltb}
 use Rattle.std.proofs.Math.ListN.{length}
-use Rattle.cases.specs.Numbers.{three}
+use Rattle.stacks.specs.Numbers.{three}
 use Rattle.arena.specs.Store.{Node, end, dollar, push, Store, node_at, at, nowhere}
 use Rattle.work.specs.Counted.{most_merges, State, Outcome, done, refused, and_then, recall, completed, interned}
 use Rattle.work.specs.Counted.{before, Merge, walk, made, begins, step, deep, counted}

@@ -4,11 +4,11 @@ use Rattle.std.proofs.Math.Path.{refl}
 use Rattle.std.proofs.Common.{ap, ◌∙◌, arith}
 use Rattle.std.proofs.Math.Bool.{true, false, or-true}
 use borrow.Author.Tests.{eq-eqb, ne_eqb, lt-ltb, le-ltb}
-use Rattle.cases.specs.Bools.{is_false}
+use Rattle.stacks.specs.Bools.{is_false}
 use Rattle.arena.specs.Store.{Node, end, dollar, push, node_at, at, nowhere, find}
 use Rattle.arena.proofs.Soundness.{Full}
 use Rattle.arena.proofs.Placed.{intern_found, intern_made}
-use Rattle.layout.specs.Ceilings.{Fits}
+use Rattle.encoding.specs.Ceilings.{Fits}
 use Rattle.encoding.specs.Decide.{fits}
 use Rattle.encoding.proofs.DecideLaws.{fits_true, true_fits}
 use Rattle.work.specs.Counted.{most_merges, most_results, Result, State, standing, Outcome, done, refused, and_then}

@@ -7,7 +7,7 @@ use Prim.Native.Nat.{ℕ, zero, suc, ◌+◌, min, max}
 use Rattle.std.proofs.Math.Nat.{min_comm, max_comm}
 use Rattle.std.proofs.Math.Dec.{eqb}
 use borrow.Author.Tests.{ne_eqb}
-use Rattle.cases.specs.Numbers.{two, three}
+use Rattle.stacks.specs.Numbers.{two, three}
 use Rattle.arena.specs.Store.{Node, end, dollar, push, node_at, Found, at, nowhere}
 use Rattle.work.specs.Counted.{most_merges, State, Outcome, done, refused, and_then, recall, completed, interned}
 use Rattle.work.specs.Counted.{before, Merge, walk, made, begins, step, deep, counted}

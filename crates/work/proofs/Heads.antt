@@ -6,7 +6,7 @@ use Rattle.std.specs.Prelude.{true, false, ℕ, ◌<◌, eqb}
 use Rattle.arena.specs.Store.{Node, end, dollar, push}
 use Rattle.arena.proofs.Soundness.{Full}
 use Rattle.arena.proofs.Below.{NodeBelow}
-use Rattle.layout.specs.Layout.{stop}
+use Rattle.encoding.specs.Layout.{stop}
 use Rattle.work.specs.Counted.{State, Outcome, done, refused, and_then, before, Merge, walk}
 use Rattle.work.proofs.CountedLaws.{walk_less, walk_greater}
 use Rattle.work.proofs.Equations.{onward, onward_same, both_done, both_refused}

@@ -3,7 +3,7 @@ use Rattle.std.specs.Prelude.{◌≡◌, refl, Bool, true, false, ◌&&◌, List
 use Rattle.std.proofs.Common.{sym, ◌∙◌, arith, ltb-true, eqb-true}
 use Rattle.std.proofs.lemmas.Bool.{false≢true}
 use Rattle.std.specs.Bool.{beq}
-use Rattle.cases.specs.Bools.{and_both}
+use Rattle.stacks.specs.Bools.{and_both}
 use Rattle.stacks.proofs.Algebra.{comm}
 use Rattle.arena.specs.Store.{Store, Found, at}
 use Rattle.arena.proofs.Soundness.{Sound}

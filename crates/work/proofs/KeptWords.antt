@@ -7,7 +7,7 @@ use Prim.Native.Nat.{ℕ, zero, suc, ◌<◌, ◌+◌, ◌*◌, ◌/◌, ◌%◌
 use native.Mathlib.Omega.{arith}
 use Rattle.std.proofs.Math.ListN.{get_or}
 use Rattle.std.proofs.Math.Seq.{get_or-set_same}
-use Rattle.cases.specs.Numbers.{two}
+use Rattle.stacks.specs.Numbers.{two}
 use Rattle.arena.specs.Store.{at, nowhere}
 use Rattle.work.specs.Counted.{Result, recall}
 use Rattle.work.proofs.CountedLaws.{result}

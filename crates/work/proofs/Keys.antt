@@ -6,7 +6,7 @@ use Rattle.std.specs.Bool.{beq}
 use Prim.Native.Nat.{ℕ, zero, suc, ◌<◌, ◌≤◌, ◌+◌, min, max}
 use Rattle.std.proofs.Math.Dec.{eqb}
 use Rattle.std.proofs.Math.ListN.{length}
-use Rattle.cases.specs.Numbers.{three}
+use Rattle.stacks.specs.Numbers.{three}
 use Rattle.arena.specs.Store.{Node, end, dollar, push, Store, node_at, Found, nowhere}
 use Rattle.arena.specs.Place.{intern}
 use Rattle.encoding.specs.Decide.{fits}

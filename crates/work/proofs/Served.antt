@@ -6,7 +6,7 @@ use Rattle.std.proofs.lemmas.Bool.{false≢true}
 use Prim.Native.Nat.{ℕ, zero, suc, ◌<◌, ◌≤◌, ◌+◌, min, max}
 use Rattle.std.proofs.Math.Dec.{eqb}
 use borrow.Author.Tests.{ltb-true, ltb-false, eqb-true, eqb-false}
-use Rattle.cases.specs.Bools.{either, neither_left, neither_right, never_both}
+use Rattle.stacks.specs.Bools.{either, neither_left, neither_right, never_both}
 use Rattle.arena.specs.Store.{Node, Store, tree_of, tree, node_at}
 use Rattle.arena.proofs.Soundness.{Sound}
 use Rattle.arena.proofs.Trees.{node_sound, tree_node}

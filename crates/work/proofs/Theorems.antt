@@ -5,7 +5,7 @@ use mathlib.Core.List.{List, [], ◌++◌}
 use Rattle.arena.specs.Store.{Store, tree}
 use Rattle.arena.proofs.Soundness.{Sound}
 use Rattle.arena.specs.Place.{merge_s}
-use Rattle.layout.specs.Ceilings.{Fits}
+use Rattle.encoding.specs.Ceilings.{Fits}
 use Rattle.work.specs.Counted.{Result, State, standing, Outcome, done, refused, step, counted, counting}
 use Rattle.work.proofs.After.{Good, Refused, After}
 use Rattle.work.proofs.Walked.{weight}

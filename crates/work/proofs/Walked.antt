@@ -2,7 +2,7 @@
 use Rattle.std.specs.Prelude.{◌≡◌, Bool, length}
 use Prim.Native.Nat.{ℕ, suc, ◌<◌, ◌≤◌, ◌+◌}
 use Rattle.std.proofs.Common.{arith}
-use Rattle.cases.specs.Numbers.{three}
+use Rattle.stacks.specs.Numbers.{three}
 use Rattle.stacks.specs.Forest.{Forest, none, mark, over}
 use Rattle.arena.specs.Store.{Node, end, dollar, push, Store, tree_of, tree}
 use Rattle.arena.proofs.Soundness.{Rise}

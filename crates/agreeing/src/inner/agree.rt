@@ -1,6 +1,6 @@
 // Bytes of a recorded answer held against bytes laid out.
 ghost use Rattle.std.specs.Prelude.{◌≡◌, ◌++◌, ◌≤◌, drop, length, take};
-ghost use Rattle.recordcheck.specs.Check.{Tells};
+ghost use Rattle.lines.specs.Check.{Tells};
 ghost use Rattle.lines.specs.Lines.{end_line};
 
 use layout::STORE_WORDS;

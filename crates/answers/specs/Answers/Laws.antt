@@ -5,7 +5,7 @@ use Rattle.words.specs.declared.refusals.Refusal.{Refusal}
 use Rattle.store.specs.Calls.{refused}
 use Rattle.answers.specs.declared.structs.Answer.{Answer}
 use Rattle.answers.specs.declared.structs.EntryAnswer.{EntryAnswer}
-use Rattle.groups.specs.Answers.{Answer as Alt, none, only}
+use Rattle.deciding.specs.Answers.{Answer as Alt, none, only}
 use Rattle.deciding.specs.OneAlt.{one_alt}
 use Rattle.verdicts.specs.Calls.{refused as notSaid, says, alternative}
 use Rattle.figures.specs.Replies.{told}

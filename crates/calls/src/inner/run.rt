@@ -1,7 +1,7 @@
 // A record is run.
 ghost use Rattle.std.specs.Prelude.{◌≡◌, length};
 ghost use Rattle.format.specs.Answers.{call_in};
-ghost use Rattle.lines.specs.Lines.{line_bytes};
+ghost use Rattle.replies.specs.Lines.{line_bytes};
 ghost use Rattle.replies.specs.Replies.Laws.{Answered};
 ghost use Rattle.replies.specs.Replies.{call_of, lent};
 ghost use Rattle.calls.specs.Called.{Stands};

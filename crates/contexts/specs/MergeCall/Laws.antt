@@ -6,7 +6,7 @@ use Rattle.std.proofs.Math.Logic.{⊎_elim}
 use Rattle.std.proofs.Math.Bool.{true}
 use mathlib.Core.List.{List, [], ◌∷◌}
 use Rattle.std.proofs.Math.ListN.{length}
-use Rattle.cases.specs.Bools.{bool?}
+use Rattle.words.specs.Bools.{bool?}
 use Rattle.words.specs.Refusals.{number}
 use Rattle.words.specs.declared.refusals.Refusal.{Refusal}
 use Rattle.arena.specs.Store.{Store}
@@ -21,7 +21,7 @@ use Rattle.encoding.specs.Decide.{fits}
 use Rattle.encoding.proofs.DecideLaws.{true_fits, fits_false}
 use Rattle.encoding.specs.Cut.{cut}
 use Rattle.encoding.proofs.CutBack.{cut_back}
-use Rattle.index.specs.Grow.{index_frame}
+use Rattle.store.specs.Grow.{index_frame}
 use Rattle.work.specs.Counted.{Outcome, done, refused as over, State, counted, counting, too_much, count_of}
 use Rattle.work.proofs.Theorems.{answer_is, answer_fits, refusal_is, sides_exchanged}
 use Rattle.cache.specs.Cache.{Emptied, merges_counted}

@@ -1,6 +1,6 @@
 // The smallest alternative of a set.
 ghost use Rattle.std.specs.Prelude.{◌≡◌, ◌<◌, min};
-ghost use Rattle.sets.specs.Layout.{config_count};
+ghost use Rattle.groups.specs.Layout.{config_count};
 ghost use Rattle.deciding.specs.Alone.{Counted, Least};
 
 use grouping::inner::traits::alternative_of;

@@ -1,7 +1,7 @@
 // The verdict on the configs of a sound set.
 ghost use Rattle.std.specs.Prelude.{◌≡◌, true, ◌<◌, eqb, length};
-ghost use Rattle.sets.specs.Layout.{config_at, most_configs, set_words_length};
-ghost use Rattle.sets.specs.Lists.{any};
+ghost use Rattle.groups.specs.Layout.{config_at, most_configs, set_words_length};
+ghost use Rattle.groups.specs.SetsLists.{any};
 ghost use Rattle.groups.specs.Answers.{stopped, verdict};
 ghost use Rattle.grouping.specs.Clash.{configs_of};
 ghost use Rattle.grouping.specs.Led.{Lent};

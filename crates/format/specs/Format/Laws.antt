@@ -5,7 +5,7 @@ use Rattle.std.proofs.Common.{arith, lt-ltb, le-ltb, leb-true, le-leb, ne_eqb}
 use Rattle.std.proofs.lemmas.Bool.{lt-leb}
 use Rattle.format.specs.Bytes.{u16_at, u32_at, u64_at, words_at}
 use Rattle.format.specs.Payloads.{payload_of, accepts}
-use Rattle.cases.specs.Numbers.{below?}
+use Rattle.words.specs.Numbers.{below?}
 use Rattle.format.specs.Format.{Record, singleton, merge, new_set, add, stops, verdict, show, close, why, Reading, found, ended, malformed}
 use Rattle.format.specs.Format.{if_well, config_from, if_kind, payload_at, record_at, read_at}
 

@@ -5,8 +5,8 @@ use Rattle.std.proofs.Math.Path.{refl, sym, ap}
 use Rattle.std.proofs.Common.{◌∙◌, arith}
 use Rattle.std.proofs.Math.ListN.{get_or-eq_default}
 use borrow.Author.Tests.{eqb-true, ltb-true, lt-ltb, le-ltb, ne_eqb}
-use Rattle.cases.specs.Bools.{and_left, and_right}
-use Rattle.cases.specs.Numbers.{below?}
+use Rattle.words.specs.Bools.{and_left, and_right}
+use Rattle.words.specs.Numbers.{below?}
 use Rattle.format.specs.Payloads.{Payload, exactly, fours, none, payloads, payload_of, accepts}
 use Rattle.format.specs.Table.{variable, no_kind, entry, entry_accepts}
 

@@ -4,13 +4,13 @@ use Rattle.std.proofs.Common.{sym, ◌∙◌, add-one, length-set, get_or-set_sa
 use Rattle.std.proofs.Math.Path.{ap}
 use native.Mathlib.Omega.{arith}
 use Rattle.std.proofs.Math.ListN.{length, length-append}
-use Rattle.cases.specs.Numbers.{two}
-use Rattle.arena.specs.Store.{at, nowhere}
-use Rattle.layout.specs.Layout.{scratch_words}
-use Rattle.sets.specs.Layout.{most_configs, config_at}
-use Rattle.sets.specs.Words.{configs_in}
-use Rattle.sets.specs.Listed.{at_any, none_any}
-use Rattle.sets.specs.Chains.{last, last_none, Chained, linked, linked_length, linked_other, chain_empty, chain_add}
+use Rattle.words.specs.Numbers.{two}
+use Rattle.encoding.specs.Store.{at, nowhere}
+use Rattle.encoding.specs.Layout.{scratch_words}
+use Rattle.groups.specs.Layout.{most_configs, config_at}
+use Rattle.groups.specs.Words.{configs_in}
+use Rattle.groups.specs.Listed.{at_any, none_any}
+use Rattle.groups.specs.Chains.{last, last_none, Chained, linked, linked_length, linked_other, chain_empty, chain_add}
 use Rattle.setcheck.specs.Keys.{key_heads, key_links}
 use Rattle.groups.specs.Groups.{firsts}
 use Rattle.groups.proofs.Last.{firsts_new, firsts_old}

@@ -5,14 +5,14 @@ use Rattle.std.proofs.Math.Bool.{true, false}
 use Rattle.std.proofs.lemmas.Bool.{eqb-false, not-true}
 use Rattle.words.specs.Lent.{cleared_range}
 use Rattle.words.specs.Lent.Laws.{length_cleared_range, cleared_range_before, cleared_range_inside}
-use Rattle.cases.specs.Numbers.{two}
-use Rattle.layout.specs.Layout.{scratch_words}
-use Rattle.sets.specs.Config.{Config}
-use Rattle.sets.specs.Layout.{most_configs, config_at, config_count}
-use Rattle.sets.specs.Lists.{any}
-use Rattle.cases.specs.Bools.{never_both, is_false, both_true, and_left, and_right}
-use Rattle.sets.specs.Words.{configs_in}
-use Rattle.sets.specs.Listed.{any_at, at_any}
+use Rattle.words.specs.Numbers.{two}
+use Rattle.encoding.specs.Layout.{scratch_words}
+use Rattle.groups.specs.Config.{Config}
+use Rattle.groups.specs.Layout.{most_configs, config_at, config_count}
+use Rattle.groups.specs.SetsLists.{any}
+use Rattle.words.specs.Bools.{never_both, is_false, both_true, and_left, and_right}
+use Rattle.groups.specs.Words.{configs_in}
+use Rattle.groups.specs.Listed.{any_at, at_any}
 use Rattle.grouping.specs.Alike.{alike_of, alike_at}
 use Rattle.grouping.specs.Leads.{leads_one}
 use Rattle.grouping.specs.Led.{leaders_at, marks_at, marks_end, Led}

@@ -1,8 +1,8 @@
 // Subsets with two or more alternatives.
 ghost use Rattle.std.specs.Prelude.{◌≡◌};
-ghost use Rattle.sets.specs.Layout.{config_count};
-ghost use Rattle.sets.specs.Lists.{any};
-ghost use Rattle.sets.specs.Words.{configs_in};
+ghost use Rattle.groups.specs.Layout.{config_count};
+ghost use Rattle.groups.specs.SetsLists.{any};
+ghost use Rattle.groups.specs.Words.{configs_in};
 ghost use Rattle.groups.specs.Answers.{many};
 ghost use Rattle.groups.specs.Groups.{groups};
 ghost use Rattle.grouping.specs.Led.{Led};

@@ -1,9 +1,9 @@
 // For each config the first that is alike, and the next.
 ghost use Rattle.std.specs.Prelude.{◌≡◌, suc, ◌+◌, ◌<◌, length};
-ghost use Rattle.layout.specs.Layout.{scratch_words};
-ghost use Rattle.sets.specs.Chains.{last};
-ghost use Rattle.sets.specs.Layout.{config_count, most_configs};
-ghost use Rattle.sets.specs.Words.{configs_in};
+ghost use Rattle.encoding.specs.Layout.{scratch_words};
+ghost use Rattle.groups.specs.Chains.{last};
+ghost use Rattle.groups.specs.Layout.{config_count, most_configs};
+ghost use Rattle.groups.specs.Words.{configs_in};
 ghost use Rattle.groups.specs.Groups.{firsts};
 ghost use Rattle.setcheck.specs.Keys.{place_of};
 ghost use Rattle.grouping.specs.Alike.{alike_at, alike_of};

@@ -1,8 +1,8 @@
 // First configs that are marked by a config of their kind.
 ghost use Rattle.std.specs.Prelude.{◌≡◌, ◌<◌, length};
-ghost use Rattle.layout.specs.Layout.{scratch_words};
-ghost use Rattle.sets.specs.Layout.{config_at, config_count, most_configs, set_words_length};
-ghost use Rattle.sets.specs.Words.{configs_in};
+ghost use Rattle.encoding.specs.Layout.{scratch_words};
+ghost use Rattle.groups.specs.Layout.{config_at, config_count, most_configs, set_words_length};
+ghost use Rattle.groups.specs.Words.{configs_in};
 ghost use Rattle.grouping.specs.Led.{Lent};
 ghost use Rattle.grouping.specs.Marks.{Markable, Marked, each_picked, marked_if, picks};
 ghost use Rattle.grouping.specs.FirstMarked.{FirstMarked, FirstPicked};

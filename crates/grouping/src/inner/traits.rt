@@ -1,7 +1,7 @@
 // What configs share that are alike. A bucket only picks the chain: every candidate is compared.
 ghost use Rattle.std.specs.Prelude.{◌≡◌, ◌<◌, length};
 ghost use Rattle.encoding.specs.Decide.{same_words};
-ghost use Rattle.sets.specs.Layout.{config_at, most_configs, set_words_length};
+ghost use Rattle.groups.specs.Layout.{config_at, most_configs, set_words_length};
 ghost use Rattle.setcheck.specs.Keys.{key_bucket};
 ghost use Rattle.grouping.specs.Alike.{trait_words, traits_by};
 

@@ -6,7 +6,7 @@ use Rattle.std.proofs.Math.Logic.{inl, inr, ⊎_elim}
 use Rattle.std.proofs.Math.Bool.{true, false≢true}
 use mathlib.Core.List.{List, [], ◌∷◌}
 use Rattle.sets.specs.Lists.{any, all}
-use Rattle.cases.specs.Bools.{bool?, never_both, both_true, or_right}
+use Rattle.sets.specs.Bools.{bool?, never_both, both_true, or_right}
 use Rattle.groups.specs.Lists.{Any, All, Pairwise, which}
 use Rattle.groups.specs.Lists.Laws.{every_of}
 

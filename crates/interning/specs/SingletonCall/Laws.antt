@@ -1,6 +1,6 @@
 -- The singleton's checks one inside the other, as code goes through them. Nothing here has to be believed.
 use Rattle.std.specs.Prelude.{true, false, List, ℕ, eqb, ltb}
-use Rattle.stacks.specs.Forest.{none, over}
+use Rattle.arena.specs.Forest.{none, over}
 use Rattle.words.specs.Names.{empty_mark}
 use Rattle.arena.specs.Store.{tree}
 use Rattle.arena.specs.Place.{place}

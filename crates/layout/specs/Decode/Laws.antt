@@ -1,7 +1,7 @@
 -- The store that words hold, record by record. Nothing here has to be believed.
 use Rattle.std.specs.Prelude.{◌≡◌, refl, List, ℕ, zero, suc, ◌<◌, length}
 use Rattle.std.proofs.Common.{sym, ap, ◌∙◌, arith}
-use Rattle.cases.specs.Numbers.{two}
+use Rattle.arena.specs.Numbers.{two}
 use Rattle.arena.specs.Store.{end, dollar, push, node_at}
 use Rattle.arena.proofs.Trees.{node_new, node_old}
 use Rattle.layout.specs.Layout.{kind, first, second, parent, state}

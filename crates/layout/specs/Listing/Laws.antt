@@ -1,7 +1,7 @@
 -- Lists of entries in words: sound ones are as long as their words, rise, and are the same exactly if their words are. Nothing here has to be believed.
 use Rattle.std.specs.Prelude.{◌≡◌, refl, ℕ, zero, suc, ◌<◌, ◌≤◌, ◌+◌}
 use Rattle.std.proofs.Common.{sym, ap, ◌∙◌, arith, eq-eqb, ne_eqb}
-use Rattle.cases.specs.Numbers.{two}
+use Rattle.arena.specs.Numbers.{two}
 use Rattle.arena.specs.Store.{Node, dollar, push}
 use Rattle.arena.proofs.Soundness.{Rise, Full}
 use Rattle.arena.specs.Kinds.{size}

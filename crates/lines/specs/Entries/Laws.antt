@@ -7,19 +7,19 @@ use mathlib.Core.List.{List, [], ◌∷◌, ◌++◌, append-nil}
 use Prim.Native.Nat.{ℕ, zero, suc, ◌+◌, ◌-◌, ◌*◌, ◌<◌, ◌≤◌}
 use native.Mathlib.Omega.{arith}
 use Rattle.std.proofs.Math.ListN.{length, length-append}
-use Rattle.cases.specs.Numbers.{two}
-use Rattle.arena.specs.Store.{node_at}
-use Rattle.arena.specs.Kinds.{size}
+use Rattle.words.specs.Numbers.{two}
+use Rattle.layout.specs.Store.{node_at}
+use Rattle.layout.specs.Kinds.{size}
 use Rattle.layout.specs.Layout.{most_contexts, most_entries, stop, count, kind, first, second, parent, state}
 use Rattle.layout.specs.Listing.{listing}
 use Rattle.layout.specs.Listing.Laws.{Entries, listing_stop, listing_more, listing_size, stop_last, entries_rest, entries_le}
 use Rattle.layout.specs.Decode.{node_in, store_of}
 use Rattle.layout.specs.Decode.Laws.{store_node, node_zero, node_one, node_many}
-use Rattle.encoding.specs.Reads.{kind_most, single_reads, array_entries, array_fits}
+use Rattle.groups.specs.Reads.{kind_most, single_reads, array_entries, array_fits}
 use Rattle.lines.specs.Decimal.{decimal}
 use Rattle.lines.specs.Decimal.Laws.{length_decimal, word_digits}
 use Rattle.lines.specs.Lines.{spaced, entries_bytes, entries_line}
-use Rattle.store.specs.Asks.{Known}
+use Rattle.groups.specs.Asks.{Known}
 use Rattle.lines.specs.Entries.{entry_bytes, pool_node, PoolAt}
 
 -- ---- one entry

@@ -1,8 +1,8 @@
 // The entries of a context, laid out as a line.
 ghost use Rattle.std.specs.Prelude.{◌≡◌, [], ◌++◌, ◌∷◌, ◌+◌, ◌≤◌, length};
-ghost use Rattle.arena.specs.Store.{node_at};
+ghost use Rattle.layout.specs.Store.{node_at};
 ghost use Rattle.layout.specs.Decode.{store_of};
-ghost use Rattle.store.specs.Asks.{Known};
+ghost use Rattle.groups.specs.Asks.{Known};
 ghost use Rattle.lines.specs.Entries.{PoolAt, entry_bytes, pool_node};
 ghost use Rattle.lines.specs.Laid.{Wrote};
 ghost use Rattle.lines.specs.Lines.{entries_bytes, entries_line, line_bytes, spaced};

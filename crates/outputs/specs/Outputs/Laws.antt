@@ -3,9 +3,9 @@ use Rattle.std.specs.Prelude.{◌≡◌, refl, ℕ, ◌≤◌, ◌+◌, ◌*◌,
 use mathlib.Core.List.{List, [], ◌∷◌, flat_map}
 use Rattle.std.proofs.Common.{arith, length-append}
 use Rattle.std.proofs.lemmas.List.{length-replicate}
-use Rattle.layout.specs.Layout.{blank}
-use Rattle.sets.specs.Config.{Config}
-use Rattle.sets.specs.Layout.{most_configs}
+use Rattle.groups.specs.LayoutLayout.{blank}
+use Rattle.groups.specs.Config.{Config}
+use Rattle.groups.specs.Layout.{most_configs}
 use Rattle.groups.specs.Groups.{Group, groups}
 use Rattle.groups.specs.Answers.{conflicting_alts}
 use Rattle.groups.proofs.Room.{total, groups_fit, conflicting_most}

@@ -1,6 +1,6 @@
 // The subsets, written: for each its state, its context, how many alternatives, and these, rising.
 ghost use Rattle.std.specs.Prelude.{◌≡◌, length};
-ghost use Rattle.sets.specs.Layout.{config_count};
+ghost use Rattle.groups.specs.Layout.{config_count};
 ghost use Rattle.groups.specs.Groups.{groups};
 ghost use Rattle.grouping.specs.Clash.{configs_of};
 ghost use Rattle.grouping.specs.Led.{Led};

@@ -3,7 +3,7 @@ use Rattle.std.specs.Prelude.{◌≡◌, refl, List, [], ℕ, Bool}
 use Rattle.std.proofs.Common.{sym, ap, ◌∙◌}
 use Rattle.store.specs.Calls.{Reply, Left, leaves, fresh_call}
 use Rattle.verdicts.specs.Calls.{VerdictReply, VerdictLeft, verdict_left}
-use Rattle.sets.specs.Calls.{SetReply, SetLeft, set_left, fresh_set_call}
+use Rattle.setcheck.specs.Calls.{SetReply, SetLeft, set_left, fresh_set_call}
 use Rattle.contexts.specs.Replies.{merged}
 use Rattle.contexts.specs.declared.merges.Merged.{Merged}
 use Rattle.contexts.specs.declared.merges.Merged.TheVariants.{Number as MergedTo, Refused as NotMerged}

@@ -1,13 +1,13 @@
 // Why the verdict is what it is, laid out.
 ghost use Rattle.std.specs.Prelude.{◌≡◌, drop, get_or, length, take};
-ghost use Rattle.layout.specs.Layout.{blank};
-ghost use Rattle.groups.specs.Reason.{clash, one};
-ghost use Rattle.outputs.specs.Outputs.{alts_length};
+ghost use Rattle.lines.specs.LayoutLayout.{blank};
+ghost use Rattle.lines.specs.Reason.{clash, one};
+ghost use Rattle.reasons.specs.Outputs.{alts_length};
 ghost use Rattle.reasons.specs.Calls.{why_call};
 ghost use Rattle.reasons.specs.Replies.{told};
 ghost use Rattle.lines.specs.Laid.{Wrote};
 ghost use Rattle.lines.specs.Lines.{line_bytes, reason_line};
-ghost use Rattle.replies.specs.Replies.{held_stops, verdict_line_of};
+ghost use Rattle.verdictreplies.specs.Replies.{held_stops, verdict_line_of};
 ghost use Rattle.verdictreplies.specs.Figured.{Told, stop_length};
 
 use crate::inner::pieces::{put_bytes, put_numbers};

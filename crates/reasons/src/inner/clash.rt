@@ -1,7 +1,7 @@
 // A context by its place, and the alternatives of a clash, written.
 ghost use Rattle.std.specs.Prelude.{◌≡◌, ◌∷◌, ◌<◌, length};
-ghost use Rattle.layout.specs.Layout.{blank};
-ghost use Rattle.sets.specs.Layout.{config_at, config_count, most_configs, set_words_length};
+ghost use Rattle.store.specs.Layout.{blank};
+ghost use Rattle.groups.specs.Layout.{config_at, config_count, most_configs, set_words_length};
 ghost use Rattle.grouping.specs.Alike.{alike_at};
 ghost use Rattle.grouping.specs.Leads.{FirstAlike};
 ghost use Rattle.grouping.specs.Led.{Lent};

@@ -5,7 +5,7 @@ use Rattle.std.proofs.Common.{◌∙◌, eq-eqb, ne_eqb}
 use Rattle.words.specs.Refusals.{number}
 use Rattle.words.specs.declared.names.ContextId.{ContextId}
 use Rattle.words.specs.declared.refusals.Refusal.{Refusal}
-use Rattle.arena.specs.Store.{node_at}
+use Rattle.layout.specs.Store.{node_at}
 use Rattle.layout.specs.Layout.{scratch_words}
 use Rattle.layout.specs.Decode.{store_of}
 use Rattle.store.specs.Admit.{cleared}

@@ -1,6 +1,6 @@
 // The calls on contexts, each with its reply laid out.
 ghost use Rattle.std.specs.Prelude.{◌≡◌, [], length};
-ghost use Rattle.arena.specs.Store.{node_at};
+ghost use Rattle.layout.specs.Store.{node_at};
 ghost use Rattle.layout.specs.Decode.{store_of};
 ghost use Rattle.store.specs.Calls.{asked, done};
 ghost use Rattle.interning.specs.Replies.{numbered};

@@ -1,9 +1,9 @@
 // A record on the set is run.
 ghost use Rattle.std.specs.Prelude.{◌≡◌, length};
 ghost use Rattle.format.specs.Answers.{set_call};
-ghost use Rattle.lines.specs.Lines.{line_bytes};
-ghost use Rattle.replies.specs.Replies.Laws.{Answered};
-ghost use Rattle.replies.specs.Replies.{call_of, lent};
+ghost use Rattle.setreplies.specs.Lines.{line_bytes};
+ghost use Rattle.setreplies.specs.Replies.Laws.{Answered};
+ghost use Rattle.setreplies.specs.Replies.{call_of, lent};
 ghost use Rattle.verdictreplies.specs.Figured.{stop_length};
 
 use format::SetRecord;

@@ -1,6 +1,6 @@
 // A new set, a config more, a set closed, each with its reply laid out.
 ghost use Rattle.std.specs.Prelude.{◌≡◌, not, [], length};
-ghost use Rattle.sets.specs.Calls.{add_call, close_call};
+ghost use Rattle.lines.specs.Calls.{add_call, close_call};
 ghost use Rattle.setcheck.specs.Configs.{config_of};
 ghost use Rattle.lines.specs.Laid.{Wrote};
 ghost use Rattle.lines.specs.Lines.{closed_line, line_bytes};

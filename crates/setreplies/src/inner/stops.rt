@@ -1,6 +1,6 @@
 // The stop states of a script: their number, the states, zeros.
 ghost use Rattle.std.specs.Prelude.{◌≡◌, ◌+◌, ◌*◌, ◌≤◌, length};
-ghost use Rattle.verdicts.specs.Calls.{most_stops};
+ghost use Rattle.replies.specs.Calls.{most_stops};
 ghost use Rattle.format.specs.Bytes.{words_at};
 ghost use Rattle.lines.specs.Laid.{Wrote};
 ghost use Rattle.lines.specs.Lines.{line_bytes};

@@ -5,14 +5,14 @@ use Rattle.std.proofs.Common.{sym}
 use Rattle.std.proofs.Math.Bool.{and-false, and-true}
 use mathlib.Core.List.{List, [], ◌∷◌, ◌++◌}
 use borrow.Author.Tests.{eq-eqb, ne_eqb}
-use Rattle.words.specs.Provenance.{id_of}
-use Rattle.words.specs.Provenance.Laws.{id_of_merged}
-use Rattle.arena.specs.Store.{at, nowhere}
+use Rattle.encoding.specs.Provenance.{id_of}
+use Rattle.encoding.specs.Provenance.Laws.{id_of_merged}
+use Rattle.encoding.specs.Store.{at, nowhere}
 use Rattle.encoding.specs.Decide.{same_words}
 use Rattle.encoding.proofs.DecideLaws.{same_words_lem, words_same}
 use Rattle.sets.specs.Config.{Config}
 use Rattle.sets.specs.Lists.{any}
-use Rattle.cases.specs.Bools.{bool?, bool_iff, neither_left, neither_right}
+use Rattle.encoding.specs.Bools.{bool?, bool_iff, neither_left, neither_right}
 use Rattle.sets.specs.Sets.{key, same_keys, held, joined}
 
 -- ---- the same key

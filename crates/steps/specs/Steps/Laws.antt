@@ -4,7 +4,7 @@ use Rattle.std.specs.Prelude.{◌≡◌, List, ℕ, zero, suc, ◌-◌, ◌<◌,
 use Rattle.std.proofs.Math.Path.{refl}
 use Rattle.std.proofs.Common.{sym, ap, ◌∙◌, lt-ltb, le-ltb}
 use native.Mathlib.Omega.{arith}
-use Rattle.cases.specs.Numbers.{below?}
+use Rattle.words.specs.Numbers.{below?}
 use Rattle.store.specs.Calls.{zeros}
 use Rattle.format.specs.Format.{Reading, found, ended, malformed, read_at}
 use Rattle.format.specs.Format.Laws.{read_forward}

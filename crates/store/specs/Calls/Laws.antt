@@ -3,9 +3,9 @@
 use Rattle.std.specs.Prelude.{◌≡◌, refl, ◌↔◌, Bool, true, false, not, ◌&&◌, List, [], ◌∷◌, ℕ, ◌+◌, ◌-◌, ◌<◌, eqb, ltb, length}
 use Rattle.std.proofs.Common.{sym, ap, ◌∙◌, arith, eq-eqb, ne_eqb, eqb-true, ltb-true}
 use Rattle.std.proofs.lemmas.Bool.{eqb-false}
-use Rattle.cases.specs.Bools.{bool?, never_both, and_left, and_right}
-use Rattle.cases.specs.Numbers.{two, never}
-use Rattle.arena.specs.Store.{Store, at}
+use Rattle.words.specs.Bools.{bool?, never_both, and_left, and_right}
+use Rattle.words.specs.Numbers.{two, never}
+use Rattle.layout.specs.Store.{Store, at}
 use Rattle.layout.specs.Layout.{store_words, scratch_words, count as contexts}
 use Rattle.layout.specs.Encode.{words_of}
 use Rattle.layout.specs.Ceilings.{Fits}

@@ -4,9 +4,9 @@ use Rattle.std.proofs.Common.{sym, ◌∙◌, subst, eqb-true}
 use Rattle.std.proofs.Math.Path.{ap}
 use Rattle.std.proofs.lemmas.Bool.{false≢true}
 use mathlib.Core.List.{List, [], ◌∷◌, ◌++◌, map, Sublistᴰ}
-use Rattle.cases.specs.Bools.{bool?}
-use Rattle.cases.specs.Numbers.{never}
-use Rattle.arena.specs.Store.{at, nowhere}
+use Rattle.words.specs.Bools.{bool?}
+use Rattle.words.specs.Numbers.{never}
+use Rattle.layout.specs.Store.{at, nowhere}
 use Rattle.store.specs.Checks.{Check, unless, due}
 
 -- the reason for n holds, and none earlier in the list

@@ -1,6 +1,6 @@
 -- Some steps were made, from the fresh words on; a turn makes one more. What is left of the script falls.
 use Rattle.std.proofs.Common.{◌-◌, length}
-use Rattle.replies.specs.Replies.{lent}
+use Rattle.steps.specs.Replies.{lent}
 use Rattle.trace.specs.Traced.Laws.{Stands}
 use Rattle.trace.proofs.run_script.Given as goal
 

@@ -4,7 +4,7 @@ use Rattle.std.proofs.Math.Path.{sym}
 use Rattle.std.proofs.Common.{ap, ◌∙◌}
 use Rattle.std.proofs.Math.Bool.{true, false}
 use Rattle.steps.specs.Answers.{after_of}
-use Rattle.replies.specs.Replies.{Lent, Printed}
+use Rattle.steps.specs.Replies.{Lent, Printed}
 use Rattle.steps.specs.Steps.{fresh, goes, over, step_of, run_of}
 use Rattle.steps.specs.Steps.Laws.{step_forward}
 use Rattle.steps.specs.Made.{Step, Made, made_start, made_next, made_over_lem, made_words}

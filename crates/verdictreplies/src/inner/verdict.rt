@@ -1,8 +1,8 @@
 // The figures of the set, laid out.
 ghost use Rattle.std.specs.Prelude.{◌≡◌, ◌+◌, ◌-◌, ◌≤◌, drop, get_or, length, take};
-ghost use Rattle.groups.specs.Answers.{none};
+ghost use Rattle.lines.specs.Answers.{none};
 ghost use Rattle.deciding.specs.OneAlt.{one_alt};
-ghost use Rattle.verdicts.specs.Calls.{summary};
+ghost use Rattle.figures.specs.VerdictsCalls.{summary};
 ghost use Rattle.figures.specs.Calls.{figures_call};
 ghost use Rattle.figures.specs.Replies.{summary_of};
 ghost use Rattle.lines.specs.Laid.{Wrote};

@@ -9,14 +9,11 @@ unfolding set_answer_of
 returns-in-Inserted c =
     rw c.in-Inserted.is refl
 
-
 pub returns-in-Merged : goal.returns-in-Merged
 unfolding set_answer_of
 returns-in-Merged c =
     rw c.in-Merged.is refl
 
-
 pub returns-in-Refused : goal.returns-in-Refused
 unfolding set_answer_of
 returns-in-Refused c = rw c.in-Refused.is c.refusal_counted.ensures
-

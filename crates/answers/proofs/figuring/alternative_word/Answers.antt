@@ -8,8 +8,6 @@ pub returns-in-Only : goal.returns-in-Only
 unfolding alt_answer_of
 returns-in-Only c = rw c.in-Only.is refl
 
-
 pub returns-in-Nothing : goal.returns-in-Nothing
 unfolding alt_answer_of
 returns-in-Nothing c = rw c.in-Nothing.is refl
-

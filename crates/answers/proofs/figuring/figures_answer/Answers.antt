@@ -9,8 +9,6 @@ returns-in-All c =
     (told_figures c.in-All.all _ _ _ _ _ c.found_word.ensures c.alternative_word.ensures
     c.found_word-in-All.ensures c.alternative_word-in-All.ensures c.truth_word.ensures)
 
-
 pub returns-in-Refused : goal.returns-in-Refused
 returns-in-Refused c =
     rw c.in-Refused.is (refused_figures c.in-Refused.refusal _ c.refusal_number.ensures)
-

@@ -8,4 +8,3 @@ pub returns : goal.returns
 returns c =
     let args = c.args in
     one_answers (one_alt args.one) _ _ c.found_word.ensures c.alternative_word-value.ensures
-

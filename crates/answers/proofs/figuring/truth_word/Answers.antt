@@ -7,8 +7,6 @@ pub returns-then-yes : goal.returns-then-yes
 unfolding alt_answer_of
 returns-then-yes c = rw c.if-yes.true refl
 
-
 pub returns : goal.returns
 unfolding alt_answer_of
 returns c = rw c.if-yes.false refl
-

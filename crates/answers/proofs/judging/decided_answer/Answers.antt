@@ -9,14 +9,11 @@ pub returns-in-Yes : goal.returns-in-Yes
 unfolding alt_answer_of
 returns-in-Yes c = rw c.in-Yes.is refl
 
-
 pub returns-in-No : goal.returns-in-No
 unfolding alt_answer_of
 returns-in-No c = rw c.in-No.is refl
-
 
 pub returns-in-Refused : goal.returns-in-Refused
 returns-in-Refused c =
     let given = c.refusal_answer in
     rw c.in-Refused.is (refused_verdict_answer c.in-Refused.refusal given.result given.ensures.0 given.ensures.1)
-

@@ -8,9 +8,7 @@ pub returns-in-Done : goal.returns-in-Done
 unfolding alt_answer_of
 returns-in-Done c = rw c.in-Done.is refl
 
-
 pub returns-in-Refused : goal.returns-in-Refused
 unfolding alt_answer_of
 returns-in-Refused c =
     rw c.in-Refused.is c.refusal_number.ensures
-

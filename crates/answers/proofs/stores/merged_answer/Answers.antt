@@ -9,8 +9,6 @@ unfolding entry_of
 returns-in-Number c =
     rw c.in-Number.is refl
 
-
 pub returns-in-Refused : goal.returns-in-Refused
 unfolding entry_of
 returns-in-Refused c = rw c.in-Refused.is c.refusal_counted.ensures
-

@@ -14,7 +14,6 @@ returns-in-Refused c =
     let e : open-set.result ≡ Refused c.in-Refused.refusal = cc in
     add_refused args.store.now args.set.now args.scratch.now open-set.new.scratch (config_of args.config) c.in-Refused.refusal (rw e at open-set.ensures)
 
-
 pub returns-then-has_flag : goal.returns-then-has_flag
 returns-then-has_flag c =
     let open-set = c.open_set-opened in
@@ -25,7 +24,6 @@ returns-then-has_flag c =
     let e : open-set.result ≡ ready = c.in_default.is in
     add_closed args.store.now args.set.now args.scratch.now open-set.new.scratch (config_of args.config) (rw e at open-set.ensures)
     (sym has-flag.ensures ∙ if1.true) clear.new.words clear.ensures
-
 
 pub returns-then-count_of-config : goal.returns-then-count_of-config
 returns-then-count_of-config c =
@@ -40,7 +38,6 @@ returns-then-count_of-config c =
     add_unknown args.store.now args.set.now args.scratch.now open-set.new.scratch (config_of args.config) (rw e at open-set.ensures)
     (sym has-flag.ensures ∙ if1.false) (rw count_of.ensures at if2.true) clear2.new.words clear2.ensures
 
-
 pub returns : goal.returns
 returns c =
     let open-set = c.open_set-opened in
@@ -53,4 +50,3 @@ returns c =
     add-known.ensures
     ∙ add_done args.store.now args.set.now args.scratch.now open-set.new.scratch (config_of args.config) (rw e at open-set.ensures)
     (sym has-flag.ensures ∙ if1.false) (rw c.count_of.ensures at if2.false)
-

@@ -11,7 +11,6 @@ insert-requires c =
     let pre = c.requires in
     add_holds pre
 
-
 pub returns-in_default : goal.returns-in_default
 returns-in_default c =
     let args = c.args in
@@ -24,7 +23,6 @@ returns-in_default c =
     ∙ add_last pre config-count.result config-count.ensures (sym (ap place_of c.in_default.is) ∙ find-key.ensures)
     clear.new.words clear.ensures
 
-
 pub join-requires : goal.join-requires
 join-requires c =
     let find-key = c.find_key-found in
@@ -33,7 +31,6 @@ join-requires c =
     let e : find-key.result ≡ At c.in-At.place = cc in
     add_joinable pre config-count.result config-count.ensures c.in-At.place (sym (ap place_of e) ∙ find-key.ensures)
 
-
 pub returns : goal.returns
 returns c =
     let join = c.join in
@@ -41,4 +38,3 @@ returns c =
     let config-count = c.config_count-count in
     let e : c.find_key-found.result ≡ At c.in-At.place = cc in
     join.ensures ∙ add_at pre config-count.result config-count.ensures c.in-At.place (sym (ap place_of e) ∙ c.find_key-found.ensures)
-

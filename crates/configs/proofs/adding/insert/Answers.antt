@@ -12,7 +12,6 @@ returns-then-count-ge-MOST_CONFIGS c w z =
     let pre = c.requires in
     insert_full args.set.now pre (config_of args.config) c.config_count-count.result c.config_count-count.ensures w z c.if-count-ge-MOST_CONFIGS.true
 
-
 pub returns : goal.returns
 returns c w z =
     let args = c.args in
@@ -23,4 +22,3 @@ returns c w z =
     let put-config = c.put_config in
     insert_done args.set.now pre (config_of args.config) config-count.result config-count.ensures w z if1.false flag_word.result
     flag_word.ensures c.joined_flags.result c.joined_flags.ensures put-config.new.set put-config.ensures
-

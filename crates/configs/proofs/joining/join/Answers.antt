@@ -6,7 +6,7 @@ use mathlib.Core.Bool.{not}
 use Rattle.words.specs.Refusals.{number}
 use Rattle.layout.specs.Decode.{store_of}
 use Rattle.arena.specs.Place.{merge_s}
-use Rattle.work.specs.Counted.{counting}
+use Rattle.store.specs.Counted.{counting}
 use Rattle.sets.specs.Config.{Config}
 use Rattle.sets.specs.Layout.{config_at, flag}
 use Rattle.sets.specs.Sets.{joined}
@@ -21,7 +21,6 @@ merge_known-merged-requires c =
     let pre = c.requires in
     let old = ap (λ (y : Config). y.context) config-at.ensures in
     (join_live pre, rw old (join_known pre), pre.addable.known)
-
 
 pub returns-in-Number : goal.returns-in-Number
 unfolding merged_known
@@ -46,7 +45,6 @@ returns-in-Number c =
     merge_known.new.store merge_known.new.scratch c.in-Number.context.0 work.merges work.made m (config_of joined-config.result) y
     put-config.new.set put-config.ensures flag_word.result flag_word.ensures joined_flags_lem.result joined_flags_lem.ensures
 
-
 pub returns-in-Refused : goal.returns-in-Refused
 unfolding merged_known
 returns-in-Refused c =
@@ -62,4 +60,3 @@ returns-in-Refused c =
     let here = (config_at args.set.now args.place).context in
     join_refused pre (counting full s here args.config.context.0) (merge_s full s here args.config.context.0)
     merge_known.new.store merge_known.new.scratch (number c.in-Refused.refusal) m
-

@@ -6,4 +6,3 @@ use Rattle.configs.proofs.joining.joined_config.Goals as goal
 pub returns : goal.returns
 unfolding joined
 returns c = rw (c.larger.ensures, c.merge_marks.ensures)
-

@@ -13,7 +13,6 @@ returns-in-Refused c =
     let e : open-set.result ≡ Refused c.in-Refused.refusal = cc in
     close_refused args.store.now args.set.now args.scratch.now open-set.new.scratch c.in-Refused.refusal (rw e at open-set.ensures)
 
-
 pub returns : goal.returns
 returns c =
     let open-set = c.open_set-opened in
@@ -24,4 +23,3 @@ returns c =
     let e : open-set.result ≡ ready = c.in_default.is in
     close_done args.store.now args.set.now args.scratch.now open-set.new.scratch (rw e at open-set.ensures)
     flag_word.result flag_word.ensures with-flag.result with-flag.ensures clear.new.words clear.ensures
-

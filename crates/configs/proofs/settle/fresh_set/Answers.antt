@@ -8,7 +8,6 @@ returns-then-set-ne-SET_WORDS c =
     let args = c.args in
     fresh_short args.set.now c.if-set-ne-SET_WORDS.true args.full_context
 
-
 pub returns-then-full_context : goal.returns-then-full_context
 returns-then-full_context c =
     let args = c.args in
@@ -17,7 +16,6 @@ returns-then-full_context c =
     let e = c.if-full_context.true in
     rw e (fresh_full args.set.now if1.false clear.new.words clear.ensures)
 
-
 pub returns : goal.returns
 returns c =
     let args = c.args in
@@ -25,4 +23,3 @@ returns c =
     let clear = c.clear in
     let e = c.if-full_context.false in
     rw e (fresh_plain args.set.now if1.false clear.new.words clear.ensures)
-

@@ -10,4 +10,3 @@ use Rattle.configs.proofs.write.put_config.Goals as goal
 pub returns : goal.returns
 unfolding put_config put_fields fields
 returns c = refl
-

@@ -1,6 +1,6 @@
 -- By the kind.
 use mathlib.Core.Path.{sym, ap, ◌∙◌}
-use Rattle.sets.specs.Config.{Config}
+use Rattle.setcheck.specs.Config.{Config}
 use Rattle.format.specs.Format.{add, found}
 use Rattle.format.specs.Payloads.{payload_of}
 use Rattle.format.specs.Payloads.Laws.{payload_3, payload_4, payload_5}

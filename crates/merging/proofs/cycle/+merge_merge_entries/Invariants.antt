@@ -2,7 +2,7 @@
 use Rattle.std.proofs.Common.{◌≡◌, ◌+◌, ◌-◌, ◌*◌, ◌≤◌}
 use Rattle.arena.specs.Store.{node_at}
 use Rattle.arena.specs.Kinds.{size}
-use Rattle.layout.specs.Decode.{store_of}
+use Rattle.index.specs.Decode.{store_of}
 use Rattle.interning.specs.Interned.{More}
 use Rattle.merging.proofs.Turns.{Go}
 use Rattle.merging.proofs.cycle.+merge_merge_entries.Given as goal

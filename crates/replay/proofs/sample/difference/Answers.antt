@@ -1,5 +1,5 @@
 -- By the answer of `replays`.
-use Rattle.agreeing.specs.Agreeing.{affirmed, denied}
+use Rattle.script.specs.Agreeing.{affirmed, denied}
 use Rattle.replay.specs.Sample.{same, other}
 use Rattle.replay.proofs.sample.difference.Goals as goal
 

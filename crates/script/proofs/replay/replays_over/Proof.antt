@@ -5,7 +5,7 @@ use mathlib.Core.Path.{refl}
 use Prim.Native.Nat.{◌-◌}
 use borrow.Author.Tests.{not-true, not-false}
 use lib.ListN.{length}
-use Rattle.replies.specs.Replies.{Lent, lent}
+use Rattle.setreplies.specs.Replies.{Lent, lent}
 use Rattle.steps.specs.Steps.Laws.{step_forward}
 use Rattle.steps.specs.Made.{Step, step_is}
 use Rattle.agreeing.specs.Agreeing.{affirmed, denied}

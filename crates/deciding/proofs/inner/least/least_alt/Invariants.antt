@@ -1,6 +1,6 @@
 -- The smallest of the configs before.
 use Prim.Native.Nat.{◌≤◌, ◌-◌}
-use Rattle.sets.specs.Layout.{config_count}
+use Rattle.groups.specs.Layout.{config_count}
 use Rattle.deciding.specs.Alone.{Least}
 use Rattle.deciding.proofs.inner.least.least_alt.Given as goal
 

@@ -1,6 +1,6 @@
 -- The configs before have the alternative of the first; `Alone` says what follows.
 use Prim.Native.Nat.{◌<◌, ◌≤◌, ◌-◌}
-use Rattle.sets.specs.Layout.{config_count}
+use Rattle.groups.specs.Layout.{config_count}
 use Rattle.deciding.specs.Alone.{Same}
 use Rattle.deciding.proofs.inner.single.common_alt.Given as goal
 

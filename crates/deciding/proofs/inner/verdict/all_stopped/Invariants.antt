@@ -2,7 +2,7 @@
 use mathlib.Core.Path.{◌≡◌}
 use mathlib.Core.Bool.{true}
 use Prim.Native.Nat.{ℕ, ◌<◌, ◌≤◌, ◌-◌}
-use Rattle.sets.specs.Layout.{config_count}
+use Rattle.groups.specs.Layout.{config_count}
 use Rattle.deciding.specs.Stops.{Stop}
 use Rattle.deciding.proofs.inner.verdict.all_stopped.Given as goal
 

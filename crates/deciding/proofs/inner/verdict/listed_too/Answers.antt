@@ -2,7 +2,7 @@
 use mathlib.Core.Path.{sym, ap, ◌∙◌}
 use Prim.Native.Nat.{ℕ}
 use lib.Dec.{eqb}
-use Rattle.sets.specs.Lists.{any}
+use Rattle.groups.specs.SetsLists.{any}
 use Rattle.deciding.proofs.inner.verdict.listed_too.Goals as goal
 
 pub returns-then-state-last : goal.returns-then-state-last

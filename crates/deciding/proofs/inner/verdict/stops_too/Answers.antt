@@ -3,7 +3,7 @@ use mathlib.Core.Path.{ap, ◌∙◌}
 use Prim.Native.Nat.{ℕ, ◌-◌}
 use native.Mathlib.Omega.{arith}
 use lib.Dec.{eqb}
-use Rattle.sets.specs.Lists.{any}
+use Rattle.groups.specs.SetsLists.{any}
 use Rattle.deciding.proofs.inner.verdict.stops_too.Goals as goal
 
 pub state_of-state-requires : goal.state_of-state-requires

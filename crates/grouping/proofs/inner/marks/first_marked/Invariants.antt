@@ -1,6 +1,6 @@
 -- Of the configs before it is not so.
 use Prim.Native.Nat.{◌≤◌, ◌-◌}
-use Rattle.sets.specs.Layout.{config_count}
+use Rattle.groups.specs.Layout.{config_count}
 use Rattle.grouping.specs.FirstMarked.{NotYet}
 use Rattle.grouping.proofs.inner.marks.first_marked.Given as goal
 

@@ -1,6 +1,6 @@
 -- Each case reads the words that count.
 use mathlib.Core.Path.{◌≡◌}
-use Rattle.sets.specs.Layout.{config_at, field}
+use Rattle.groups.specs.Layout.{config_at, field}
 use Rattle.grouping.specs.declared.inner.traits.Alike.TheVariants.{State, Place, Alternative, Triple}
 use Rattle.grouping.proofs.inner.traits.traits_of.Goals as goal
 

@@ -2,7 +2,7 @@
 use mathlib.Core.Path.{refl}
 use native.Mathlib.Omega.{arith}
 use lib.ListN.{length-set}
-use Rattle.sets.specs.Layout.{config_at, field}
+use Rattle.groups.specs.Layout.{config_at, field}
 use Rattle.outputs.specs.Written.{listing_length, ending_old, room, roomy, ending_new, members_length}
 use Rattle.outputs.proofs.inner.subsets.write_group.Goals as goal
 

@@ -1,5 +1,5 @@
 -- From config to config of the subset; what is known at each is `Collecting`.
-use Rattle.sets.specs.Layout.{config_count}
+use Rattle.groups.specs.Layout.{config_count}
 use Rattle.outputs.specs.Members.{Collecting, left_at}
 use Rattle.outputs.proofs.inner.subsets.write_members.Given as goal
 

@@ -1,7 +1,7 @@
 -- By the reason.
 use borrow.Author.Rules.{rules}
 use Rattle.lines.specs.Lines.{reason_line, refusal_line}
-use Rattle.replies.specs.Replies.{verdict_line_of}
+use Rattle.verdictreplies.specs.Replies.{verdict_line_of}
 use Rattle.reasonreplies.proofs.inner.why.lay_reason.Statement.{statement}
 use Rattle.reasonreplies.proofs.inner.why.lay_reason.Tie as tie
 

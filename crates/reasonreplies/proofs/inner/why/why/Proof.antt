@@ -1,7 +1,7 @@
 -- The states held, the call, and its line.
 use borrow.Author.Rules.{rules}
 use mathlib.Core.Path.{refl}
-use Rattle.layout.specs.Layout.{blank}
+use Rattle.lines.specs.LayoutLayout.{blank}
 use Rattle.verdictreplies.specs.Figured.{held_stops_lem}
 use Rattle.reasonreplies.specs.Because.{why_told}
 use Rattle.reasonreplies.proofs.inner.why.why.Statement.{statement}

@@ -12,4 +12,3 @@ returns c =
     let merge = c.merge-answer in
     let args = c.args in
     replied_merge args.out.now _ merge.result (left_line [] (numbered uncounted.result [] [])) _ _ _ _ merge.ensures uncounted.ensures lay-numbered.ensures
-

@@ -13,10 +13,8 @@ returns-in-Refused c =
     show_refused ask.ensures args.out.now _ _ c.in-Refused.refusal e _ c.refusal_number.ensures
     c.lay_number.ensures
 
-
 pub returns : goal.returns
 returns c =
     let args = c.args in
     let ask = c.ask-asked in
     show_done ask.ensures args.out.now _ _ c.in_default.is c.lay_entries.ensures
-

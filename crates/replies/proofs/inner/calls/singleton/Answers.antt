@@ -9,4 +9,3 @@ returns c =
     let singleton = c.singleton-answer in
     let lay-numbered = c.lay_numbered in
     replied_call args.out.now _ singleton.result _ _ _ _ singleton.ensures lay-numbered.ensures
-

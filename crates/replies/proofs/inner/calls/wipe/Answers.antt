@@ -10,7 +10,5 @@ returns-then-scratch-eq-SCRATCH_WORDS c =
     let if1 = c.if-scratch-eq-SCRATCH_WORDS in
     c.clear.ensures ∙ sym (wiped_right args.scratch.now if1.true)
 
-
 pub returns-else-scratch-eq-SCRATCH_WORDS : goal.returns-else-scratch-eq-SCRATCH_WORDS
 returns-else-scratch-eq-SCRATCH_WORDS c = sym (wiped_wrong c.args.scratch.now c.if-scratch-eq-SCRATCH_WORDS.false)
-

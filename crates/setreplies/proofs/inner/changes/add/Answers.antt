@@ -9,4 +9,3 @@ returns c =
     let add = c.add-answer in
     let lay-added = c.lay_added in
     added_call args.out.now _ add.result _ _ _ _ _ add.ensures lay-added.ensures
-

@@ -12,7 +12,6 @@ returns-in-Done c =
     let lay-letter = c.lay_letter in
     closed_done args.out.now _ _ close.result _ _ _ _ _ close.ensures c.in-Done.is lay-letter.ensures
 
-
 pub returns-in-Refused : goal.returns-in-Refused
 returns-in-Refused c =
     let args = c.args in
@@ -21,4 +20,3 @@ returns-in-Refused c =
     let lay-number = c.lay_number in
     closed_refused args.out.now _ _ close.result _ _ _ _ _ close.ensures c.in-Refused.refusal c.in-Refused.is _
     refusal-number.ensures lay-number.ensures
-

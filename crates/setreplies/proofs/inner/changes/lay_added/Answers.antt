@@ -9,13 +9,11 @@ returns-in-Inserted c =
     let args = c.args in
     inserted_line args.out.now _ _ args.answer c.in-Inserted.is lay-numbers.ensures
 
-
 pub returns-in-Merged : goal.returns-in-Merged
 returns-in-Merged c =
     let lay-numbers2 = c.lay_numbers-in-Merged in
     let args = c.args in
     merged_line args.out.now _ _ args.answer c.in-Merged.tally c.in-Merged.is lay-numbers2.ensures
-
 
 pub returns-in-Refused : goal.returns-in-Refused
 returns-in-Refused c =
@@ -23,4 +21,3 @@ returns-in-Refused c =
     let refusal-number = c.refusal_number in
     let args = c.args in
     not_added_line args.out.now _ _ args.answer c.in-Refused.refusal _ c.in-Refused.is refusal-number.ensures lay-number.ensures
-

@@ -13,7 +13,6 @@ returns-in-Done c =
     let lay-letter = c.lay_letter in
     new_done args.out.now _ _ args.set.now _ args.scratch.now _ fresh_set.result fresh_set.ensures c.in-Done.is _ wipe.ensures lay-letter.ensures
 
-
 pub returns-in-Refused : goal.returns-in-Refused
 returns-in-Refused c =
     let args = c.args in
@@ -22,4 +21,3 @@ returns-in-Refused c =
     let lay-number = c.lay_number in
     new_refused args.out.now _ _ args.set.now _ args.scratch.now _ fresh_set.result fresh_set.ensures c.in-Refused.refusal c.in-Refused.is _
     refusal-number.ensures lay-number.ensures
-

@@ -14,7 +14,6 @@ loop-i-init c =
     let cleared = c.clear.ensures ∙ ap (λ (n : ℕ). replicate n 0) sized in
     (omega arith, simp length-set (omega arith), held_start args.bytes.now args.at args.count _ cleared)
 
-
 pub loop-i-preserved : goal.loop-i-preserved
 loop-i-preserved c =
     let args = c.args in
@@ -25,7 +24,6 @@ loop-i-preserved c =
       rw c.u32_at.ensures (held_more args.bytes.now args.at args.count loop.i loop.stops loop.invariant.2),
     )
 
-
 pub returns : goal.returns
 returns c =
     let args = c.args in
@@ -33,4 +31,3 @@ returns c =
     let pre = c.requires in
     let all : loop.i ≡ args.count = omega (arith, loop.invariant.0) in
     held_all args.bytes.now args.at args.count loop.stops pre.1 (rw all at loop.invariant.2)
-

@@ -14,7 +14,6 @@ returns-then-count-gt-MOST_STOPS c =
     too_many args.out.now _ _ args.stops.now (words_at args.bytes.now args.at args.count)
     (omega (arith, length_words args.bytes.now args.at args.count)) (rw refusal-number.ensures at lay-number.ensures)
 
-
 pub returns : goal.returns
 returns c =
     let args = c.args in
@@ -22,4 +21,3 @@ returns c =
     let lay-number2 = c.lay_number-2 in
     held_call args.out.now _ _ args.stops.now (words_at args.bytes.now args.at args.count) args.count _
     (length_words args.bytes.now args.at args.count) (omega arith) fill.ensures lay-number2.ensures
-

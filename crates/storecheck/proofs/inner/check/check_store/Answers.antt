@@ -4,7 +4,7 @@ use mathlib.Core.Path.{◌≡◌, sym, ◌∙◌}
 use Rattle.recordcheck.specs.declared.inner.check.Checked.TheVariants.{Good, Bad}
 use Rattle.layout.specs.Layout.{count}
 use Rattle.recordcheck.specs.Check.{Passed}
-use Rattle.encoding.specs.Reads.{used_lengths}
+use Rattle.recordcheck.specs.Reads.{used_lengths}
 use Rattle.storecheck.specs.Judgements.{sound_record, sound_unused, ready, judged_if}
 use Rattle.storecheck.proofs.inner.check.check_store.Goals as goal
 

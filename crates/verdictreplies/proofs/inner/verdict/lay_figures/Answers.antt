@@ -19,4 +19,3 @@ returns c =
     let all = args.all in
     figures_line_lem args.out.now all.subsets (one_alt all.unique) (one_alt all.viable) all.verdict
     put_byte.ensures put-number.ensures put-alternative.ensures put-alternative2.ensures put-verdict.ensures put-byte2.ensures
-

@@ -8,4 +8,3 @@ unfolding alternative_bytes
 returns-in-Only c =
     let put-number = c.put_number in
     rw c.in-Only.is put-number.ensures
-

@@ -10,4 +10,3 @@ unfolding alternative_bytes
 returns c =
     let put_byte = c.put_byte-next in
     record { wrote = wrote_then put_byte.ensures c.put_byte.ensures; few = omega arith }
-

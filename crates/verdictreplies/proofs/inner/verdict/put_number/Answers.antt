@@ -10,10 +10,8 @@ put_spaced-requires c =
     let pre = c.requires in
     number_room args.out.now args.at args.n (omega arith) pre
 
-
 pub returns : goal.returns
 returns c =
     let args = c.args in
     let put-spaced = c.put_spaced in
     piece_number args.out.now args.at args.n _ _ (omega arith) put-spaced.ensures
-

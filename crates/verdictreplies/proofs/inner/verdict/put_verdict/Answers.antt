@@ -10,11 +10,9 @@ returns-then-verdict c =
     let put-number = c.put_number in
     rw if1.true put-number.ensures
 
-
 pub returns : goal.returns
 unfolding verdict_bytes
 returns c =
     let if1 = c.if-verdict in
     let put-number2 = c.put_number-2 in
     rw if1.false put-number2.ensures
-

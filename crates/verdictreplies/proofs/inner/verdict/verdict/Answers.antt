@@ -12,7 +12,6 @@ returns-in-All c =
     let lay-figures = c.lay_figures in
     told_all args.out.now _ _ _ _ _ figures.result _ _ _ figures.ensures (held_stops_lem args.stops.now _ held_to.ensures.2) c.in-All.all c.in-All.is lay-figures.ensures
 
-
 pub returns-in-Refused : goal.returns-in-Refused
 returns-in-Refused c =
     let args = c.args in
@@ -22,4 +21,3 @@ returns-in-Refused c =
     let lay-number = c.lay_number in
     told_refused args.out.now _ _ _ _ _ figures.result _ _ _ figures.ensures (held_stops_lem args.stops.now _ held_to.ensures.2) c.in-Refused.refusal c.in-Refused.is _
     refusal-number.ensures lay-number.ensures
-
