@@ -13,7 +13,7 @@ use Rattle.configs.specs.MergeCall.{merge_call}
 use Rattle.configs.specs.Promises.{equal_exactly, merge_is_union, older_kept, sides_exchanged}
 use Rattle.runs.specs.Runs.{Event, Run, SameContexts, Answers}
 use Rattle.runs.proofs.Growth.{run_grows}
-use Rattle.runs.proofs.Grouping.{one_number}
+use Rattle.runs.proofs.OneNumber.{one_number}
 use Rattle.readers.specs.Calls.{Call, Lent, Sized}
 use Rattle.readers.specs.Runs.{By, run, only, Roomy}
 use Rattle.readers.proofs.Alone.{as_if_alone}

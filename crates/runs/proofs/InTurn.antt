@@ -5,7 +5,7 @@ use Rattle.encoding.specs.Decide.{sound}
 use Rattle.interning.specs.Calls.{Accepts}
 use Rattle.configs.specs.MergeCall.{merge_call}
 use Rattle.runs.specs.Runs.{Event, merge, Run, begin, next, SameContexts, Answers, named, called, later}
-use Rattle.runs.proofs.Grouping.{one_number}
+use Rattle.runs.proofs.OneNumber.{one_number}
 
 -- full merges that go back to the contexts x, called depth first, the left side's, the right side's, and then their own: the number answered, and
 -- the words after
