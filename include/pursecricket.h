@@ -1,4 +1,4 @@
-/* The doors of Pursecricket's static library (rt staticlib purse writes target/staticlib/libpurse.a).
+/* The doors of Pursecricket's static library (rt lib, in crates/purse, writes out/libpurse.a there).
    Every call is lent its words: a store is 5,634 of them, a scratch 16,384, a config set 1,538. Any contents are allowed; a refused call
    leaves store and set as they were and the scratch all 0, but for a wrong length, which leaves the scratch too. */
 #ifndef PURSECRICKET_H

@@ -24,6 +24,8 @@ OPENS = re.compile(r"^(?:\w+ )*(record|data|mutual) ?")
 USE = re.compile(r"^[ \t]*(?:pub |ghost |unfoldable )*use ([^\s;{]+?)(?:\.\{([^{}]*)\}|(?: as (\S+?))?);?$", re.M)
 GENERATED = ("Proof.antt", "Answers.antt", "Invariants.antt", "Statement.antt")
 SPECIAL = {"getD": "get_or", "sameKey": "same_keys"}
+# Names that meet another only where neither hides the other.
+APART = {"noRoom", "after-of"}
 # Lemmas that would have their function's name.
 LEMMAS = """sum-from in_order alts-length on_store held-stops on-verdict on-set joined-flags too_much subsets-length figures-line
 fresh-store end_line and-then config-of fresh_set same-words row-with made-over parent-at number-line entry-state lent-lengths
@@ -113,7 +115,7 @@ def main(argv):
         by_new[new].add(old)
     for new, olds in by_new.items():
         if len(olds) > 1 or new in names - set(table):
-            for old in olds:
+            for old in olds - APART:
                 stays[old] = f"falls together with {sorted((olds | ({new} & names)) - {old})}"
     for path, seen in tokens.items():
         for old in seen & set(table):
