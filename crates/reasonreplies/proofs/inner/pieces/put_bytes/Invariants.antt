@@ -11,7 +11,5 @@ use Rattle.reasonreplies.proofs.inner.pieces.put_bytes.Given as goal
 abbrev pub invariant-loop-i : goal.invariant-loop-i
 invariant-loop-i l = (l.i ≤ length l.bytes) × Wrote l.initial.out l.at (take l.i l.bytes) l.next l.out
 
-
 abbrev pub decreases-loop-i : goal.decreases-loop-i
 decreases-loop-i l = length l.bytes - l.i
-

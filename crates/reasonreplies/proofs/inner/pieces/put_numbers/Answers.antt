@@ -13,11 +13,9 @@ loop-i-init c =
     let pre = c.requires in
     (omega arith, spread_none args.out.now args.at (omega (arith, pre)))
 
-
 pub loop-i-preserved : goal.loop-i-preserved
 loop-i-preserved c =
     let args = c.args in
     let loop = c.loop-i in
     let loop-test = c.loop-i-test in
     (omega (arith, loop-test.true), spread_more args.numbers.now loop.i loop-test.true loop.invariant.1 refl c.put_number-next.ensures)
-

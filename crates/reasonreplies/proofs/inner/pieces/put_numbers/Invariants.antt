@@ -10,7 +10,5 @@ use Rattle.reasonreplies.proofs.inner.pieces.put_numbers.Given as goal
 abbrev pub invariant-loop-i : goal.invariant-loop-i
 invariant-loop-i l = (l.i ≤ length l.numbers) × Spread l.initial.out l.at (take l.i l.numbers) l.next l.out
 
-
 abbrev pub decreases-loop-i : goal.decreases-loop-i
 decreases-loop-i l = length l.numbers - l.i
-

@@ -15,4 +15,3 @@ returns c =
     rw held_to.ensures.2 at
     (clash_line args.out.now args.state args.context _ put-bytes.ensures put-number.ensures put-number2.ensures put-numbers.ensures
     put_byte.ensures)
-

@@ -11,4 +11,3 @@ returns c =
     let put-number2 = c.put_number-at-2 in
     let put_byte = c.put_byte in
     one_line args.out.now args.state args.alternative put-bytes.ensures put-number.ensures put-number2.ensures put_byte.ensures
-

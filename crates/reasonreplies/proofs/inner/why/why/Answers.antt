@@ -14,4 +14,3 @@ returns c =
     let held_to = c.held_to-end in
     let lay-reason = c.lay_reason in
     why_told args.out.now _ _ _ _ _ why.result _ _ _ _ _ why.ensures (held_stops_lem args.stops.now _ held_to.ensures.2) refl lay-reason.ensures
-
