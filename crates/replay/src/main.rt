@@ -4,7 +4,7 @@
 
 mod sample;
 
-ghost use Rattle.std.specs.Prelude.{◌≡◌, ◌≤◌, length, IfOk};
+ghost use Rattle.std.specs.Prelude.{◌≡◌, ◌≤◌, length};
 ghost use Rattle.replay.specs.Sample.{sample_bytes};
 
 use sample::{Tally, compare};
@@ -21,20 +21,22 @@ fn room() -> [u8; SAMPLE_BYTES]
     [0; SAMPLE_BYTES]
 }
 
-// Reads until `buf` is full or the input ends, and returns how many bytes it put at the start of
-// `buf`. A read that a signal interrupts counts as one that failed.
-fn read_full(input: &mut impl Read, buf: &mut [u8]) -> io::Result<usize>
-    ensures { IfOk result (λ n. n ≤ length buf.new) }
+// Reads until `buf` is full, the input ends or a read fails, and returns how many bytes it put at the
+// start of `buf`.
+fn read_full(input: &mut impl Read, buf: &mut [u8]) -> usize
+    ensures { result ≤ length buf.new }
 {
     let mut done = 0;
     while done < buf.len() {
-        let n = input.read(&mut buf[done..])?;
+        let Ok(n) = input.read(&mut buf[done..]) else {
+            break;
+        };
         if n == 0 {
             break;
         }
         done += n;
     }
-    Ok(done)
+    done
 }
 
 // Prints what a comparison found.
@@ -48,6 +50,6 @@ fn report(rt: &impl Print, tally: Tally) -> io::Result<()> {
 fn main(rt: HostRuntime) -> io::Result<()> {
     let mut file = fs::open(&rt, "sample.bin")?;
     let mut sample = room();
-    let n = read_full(&mut file, &mut sample)?;
+    let n = read_full(&mut file, &mut sample);
     report(&rt, compare(&sample[..n]))
 }
