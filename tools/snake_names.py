@@ -25,7 +25,7 @@ USE = re.compile(r"^[ \t]*(?:pub |ghost |unfoldable )*use ([^\s;{]+?)(?:\.\{([^{
 GENERATED = ("Proof.antt", "Answers.antt", "Invariants.antt", "Statement.antt")
 SPECIAL = {"getD": "get_or", "sameKey": "same_keys"}
 # Names that meet another only where neither hides the other.
-APART = {"noRoom", "after-of"}
+APART = {"noRoom", "after-of", "goingOn"}
 # Lemmas that would have their function's name.
 LEMMAS = """sum-from in_order alts-length on_store held-stops on-verdict on-set joined-flags too_much subsets-length figures-line
 fresh-store end_line and-then config-of fresh_set same-words row-with made-over parent-at number-line entry-state lent-lengths

@@ -114,7 +114,8 @@ unfolding read_at record_at payload_at accepts payload_of payloads words_at u16_
 others = (refl, refl, refl, refl)
 
 -- a byte short; kinds 0 and 10; lengths that are not the kinds'; a mode of 2
-pub faults : (read_at (4 ∷ 0 ∷ 7 ∷ 0 ∷ 2 ∷ 0 ∷ 0 ∷ []) 0 ≡ malformed) × (read_at (0 ∷ 0 ∷ 0 ∷ 0 ∷ []) 0 ≡ malformed) × (read_at (0 ∷ 0 ∷ 10 ∷ 0 ∷ []) 0 ≡ malformed)
+pub faults : (read_at (4 ∷ 0 ∷ 7 ∷ 0 ∷ 2 ∷ 0 ∷ 0 ∷ []) 0 ≡ malformed) × (read_at (0 ∷ 0 ∷ 0 ∷ 0 ∷ []) 0 ≡ malformed)
+    × (read_at (0 ∷ 0 ∷ 10 ∷ 0 ∷ []) 0 ≡ malformed)
     × (read_at (3 ∷ 0 ∷ 7 ∷ 0 ∷ 2 ∷ 0 ∷ 0 ∷ []) 0 ≡ malformed) × (read_at (3 ∷ 0 ∷ 5 ∷ 0 ∷ 2 ∷ 0 ∷ 0 ∷ []) 0 ≡ malformed)
     × (read_at (1 ∷ 0 ∷ 6 ∷ 0 ∷ 0 ∷ []) 0 ≡ malformed)
     × (read_at (1 ∷ 0 ∷ 9 ∷ 0 ∷ 0 ∷ []) 0 ≡ malformed)

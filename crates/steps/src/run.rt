@@ -43,7 +43,7 @@ pub fn run_step(
     scratch: &mut [u32],
     out: &mut [u8; LINE_BYTES],
 ) -> Ran
-    ensures scratch_after { behind result out.new (lent store.new set.new stops.new scratch.new)
+    ensures as_the_step { behind result out.new (lent store.new set.new stops.new scratch.new)
         ≡ laid_out out.old
         (step_of bytes.now at (lent store.old set.old stops.old scratch.old)) }
     ensures result_in_bounds { wrote_of result ≤ length out.new }

@@ -17,7 +17,7 @@ returns-then-not-agrees c =
     let before = lent c.loop-wrote.store c.loop-wrote.set c.loop-wrote.stops c.loop-wrote.scratch in
     let ran = c.run_step-ran in
     let stepped : Step c.args.script.now c.loop-wrote.at before ran.result ran.new.out (lent ran.new.store ran.new.set ran.new.stops ran.new.scratch) =
-    step_is _ _ _ c.loop-wrote.out _ _ _ ran.ensures.scratch_after ran.ensures.result_in_bounds in
+    step_is _ _ _ c.loop-wrote.out _ _ _ ran.ensures.as_the_step ran.ensures.result_in_bounds in
     let agrees = c.agrees in
     let loop = c.loop-wrote in
     told_not loop.invariant (rw c.in-Next.is at stepped) (denied agrees.result (c.if-not-agrees.true) agrees.ensures)
@@ -27,7 +27,7 @@ loop-wrote-smaller c =
     let before = lent c.loop-wrote.store c.loop-wrote.set c.loop-wrote.stops c.loop-wrote.scratch in
     let ran = c.run_step-ran in
     let stepped : Step c.args.script.now c.loop-wrote.at before ran.result ran.new.out (lent ran.new.store ran.new.set ran.new.stops ran.new.scratch) =
-    step_is _ _ _ c.loop-wrote.out _ _ _ ran.ensures.scratch_after ran.ensures.result_in_bounds in
+    step_is _ _ _ c.loop-wrote.out _ _ _ ran.ensures.as_the_step ran.ensures.result_in_bounds in
     let args = c.args in
     let loop = c.loop-wrote in
     let step = rw c.in-Next.is at stepped in
@@ -38,7 +38,7 @@ loop-wrote-preserved c =
     let before = lent c.loop-wrote.store c.loop-wrote.set c.loop-wrote.stops c.loop-wrote.scratch in
     let ran = c.run_step-ran in
     let stepped : Step c.args.script.now c.loop-wrote.at before ran.result ran.new.out (lent ran.new.store ran.new.set ran.new.stops ran.new.scratch) =
-    step_is _ _ _ c.loop-wrote.out _ _ _ ran.ensures.scratch_after ran.ensures.result_in_bounds in
+    step_is _ _ _ c.loop-wrote.out _ _ _ ran.ensures.as_the_step ran.ensures.result_in_bounds in
     let agrees = c.agrees in
     let loop = c.loop-wrote in
     let same = affirmed agrees.result (c.if-not-agrees.false) agrees.ensures in
@@ -49,7 +49,7 @@ returns-then-not-agrees-2 c =
     let before = lent c.loop-wrote.store c.loop-wrote.set c.loop-wrote.stops c.loop-wrote.scratch in
     let ran = c.run_step-ran in
     let stepped : Step c.args.script.now c.loop-wrote.at before ran.result ran.new.out (lent ran.new.store ran.new.set ran.new.stops ran.new.scratch) =
-    step_is _ _ _ c.loop-wrote.out _ _ _ ran.ensures.scratch_after ran.ensures.result_in_bounds in
+    step_is _ _ _ c.loop-wrote.out _ _ _ ran.ensures.as_the_step ran.ensures.result_in_bounds in
     let agrees = c.agrees-in-Over in
     let loop = c.loop-wrote in
     told_not loop.invariant (rw c.in-Over.is at stepped) (denied agrees.result (c.if-not-agrees-2.true) agrees.ensures)
@@ -59,7 +59,7 @@ returns-in-Over c =
     let before = lent c.loop-wrote.store c.loop-wrote.set c.loop-wrote.stops c.loop-wrote.scratch in
     let ran = c.run_step-ran in
     let stepped : Step c.args.script.now c.loop-wrote.at before ran.result ran.new.out (lent ran.new.store ran.new.set ran.new.stops ran.new.scratch) =
-    step_is _ _ _ c.loop-wrote.out _ _ _ ran.ensures.scratch_after ran.ensures.result_in_bounds in
+    step_is _ _ _ c.loop-wrote.out _ _ _ ran.ensures.as_the_step ran.ensures.result_in_bounds in
     let agrees = c.agrees-in-Over in
     let if2 = c.if-not-agrees-2 in
     let args = c.args in

@@ -16,7 +16,7 @@ returns-then-bytes-gt-MOST_BYTES c =
     let refuse = c.refuse in
     let if1 = c.if-bytes-gt-MOST_BYTES in
     let words = lent args.store.now args.set.now args.stops.now args.scratch.now in record {
-      scratch_after = ran_over args.out.now _ _ _ (refusal_line 9) words _ refuse.ensures.wrote refuse.ensures.scratch_after
+      as_the_step = ran_over args.out.now _ _ _ (refusal_line 9) words _ refuse.ensures.wrote refuse.ensures.scratch_after
           (step_long args.bytes.now args.at words if1.true);
       result_in_bounds = omega (arith, refuse.ensures.wrote.within, wrote_length refuse.ensures.wrote);
     }
@@ -29,7 +29,7 @@ returns-in-Found c =
     let decode = c.decode-step in
     let words = lent args.store.now args.set.now args.stops.now args.scratch.now in
     let next = c.in-Found.next in record {
-      scratch_after = ran_next args.out.now _ _ _ _ next _ run-record.ensures
+      as_the_step = ran_next args.out.now _ _ _ _ next _ run-record.ensures
           (step_found args.bytes.now args.at words if1.false (call_in args.bytes.now c.in-Found.call) next
           (sym (ap (reading args.bytes.now) c.in-Found.is) ∙ decode.ensures.0));
       result_in_bounds = omega (arith, run-record.ensures.wrote.within, wrote_length run-record.ensures.wrote);
@@ -42,7 +42,7 @@ returns-in-End c =
     let if1 = c.if-bytes-gt-MOST_BYTES in
     let decode = c.decode-step in
     let words = lent args.store.now args.set.now args.stops.now args.scratch.now in record {
-      scratch_after = ran_over args.out.now 0 _ _ [] words _ (wrote_none args.out.now 0 (omega arith)) wipe.ensures
+      as_the_step = ran_over args.out.now 0 _ _ [] words _ (wrote_none args.out.now 0 (omega arith)) wipe.ensures
           (step_ended args.bytes.now args.at words if1.false (sym (ap (reading args.bytes.now) c.in-End.is) ∙ decode.ensures.0));
       result_in_bounds = omega arith;
     }
@@ -54,7 +54,7 @@ returns-in-Malformed c =
     let if1 = c.if-bytes-gt-MOST_BYTES in
     let decode = c.decode-step in
     let words = lent args.store.now args.set.now args.stops.now args.scratch.now in record {
-      scratch_after = ran_over args.out.now _ _ _ (refusal_line 9) words _ refuse.ensures.wrote refuse.ensures.scratch_after
+      as_the_step = ran_over args.out.now _ _ _ (refusal_line 9) words _ refuse.ensures.wrote refuse.ensures.scratch_after
           (step_malformed args.bytes.now args.at words if1.false (sym (ap (reading args.bytes.now) c.in-Malformed.is) ∙ decode.ensures.0));
       result_in_bounds = omega (arith, refuse.ensures.wrote.within, wrote_length refuse.ensures.wrote);
     }
