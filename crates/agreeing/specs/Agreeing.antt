@@ -1,6 +1,12 @@
 -- Bytes of a recorded answer compared with bytes laid out. Nothing here has to be believed.
-use Rattle.std.specs.Prelude.{◌≡◌, Bool, true, false, List, [], ◌∷◌, ◌++◌, ℕ, ◌+◌, ◌-◌, ◌<◌, ◌≤◌, length, get_or, take, drop}
+use Rattle.std.specs.Prelude.{◌≡◌, refl, Bool, true, false, List, [], ◌∷◌, ◌++◌, ℕ, ◌+◌, ◌-◌, ◌<◌, ◌≤◌, eqb, length, get_or, take, drop}
+use Rattle.std.specs.Bool.{Decides}
+use Rattle.std.specs.Cmp.Lexicographic.{pointwise}
+use Rattle.std.specs.List.{starts_with}
 use Rattle.std.proofs.Common.{sym, ap, ◌∙◌, arith, add-one, length-append, length-take, length-drop, take-suc, get_or-take, get_or-drop, take-add, take_all, drop_at, length-take-le}
+use Rattle.std.proofs.lemmas.Bool.Decides.{Decides-eqb}
+use Rattle.std.proofs.lemmas.List.{take-append-drop, take_rest}
+use Rattle.std.proofs.lemmas.Slice.Eq.{slice_eq-Decides}
 use Rattle.lines.specs.Check.{Tells}
 use Rattle.lines.specs.Laid.{Wrote}
 use Rattle.lines.specs.Laid.Laws.{take_laid}
@@ -11,6 +17,18 @@ affirmed b e t = rw e at t
 
 pub denied : {P : Type 0} (b : Bool) → b ≡ false → Tells P b → P → ⊥
 denied b e t = rw e at t
+
+-- a test that decides it, by way of another sentence
+pub told_by : {P Q : Type 0} (r : Bool) → Decides r P → (P → Q) → (Q → P) → Tells Q r
+told_by true d f g = f (d.0 refl)
+told_by false d f g = λ q. let e : false ≡ true = d.1 (g q) in absurd (let z : ◌≡◌ {A = ℕ} 0 1 = cc in omega arith)
+
+-- ---- bytes compared
+
+pub agrees_tells : (a u : List ℕ) (at m : ℕ) (r : Bool) → m ≤ length u → r ≡ starts_with eqb (take (length a - at) (drop at a)) (take m u)
+    → Tells (take m (drop at a) ≡ take m u) r
+agrees_tells a u at m r h e =
+    told_by r (slice_eq-Decides Decides-eqb (take m u) (take m (drop at a)) r (rw (take_rest a at, length-take-le m u h) at e)) sym sym
 
 -- ---- bytes compared one by one
 
@@ -43,6 +61,13 @@ module _ (a : List ℕ) (n : ℕ) (h : n ≤ length a) (xs b : List ℕ) (m : �
   last_is =
       let l : m ≡ length xs = v.after ∙ omega arith in
       ap (λ (k : ℕ). take k u) l ∙ ap (take (length xs)) v.bytes ∙ take_laid b xs (omega (arith, v.within))
+
+  -- it is what follows
+  pub last_tells : (r : Bool) → r ≡ pointwise eqb (take (length a - n) (drop n a)) (take m u) → Tells (a ≡ take n a ++ xs) r
+  last_tells r e =
+      told_by r (slice_eq-Decides Decides-eqb (drop n a) (take m u) r (rw (take_rest a n) at e))
+      (λ same. sym (take-append-drop n a) ∙ ap (λ (l : List ℕ). take n a ++ l) (same ∙ last_is))
+      (λ x. follows a n h xs x ∙ sym last_is)
 
   pub last_not : (take m (drop n a) ≡ take m u → ⊥) → a ≡ take n a ++ xs → ⊥
   last_not differs x =

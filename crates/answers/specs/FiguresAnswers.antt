@@ -1,5 +1,5 @@
 -- To believe: the same of all figures of a set: each as in the answer of its own call, and all 0 on a refusal.
-use Rattle.std.specs.Prelude.{false, ℕ}
+use Rattle.std.specs.Prelude.{false}
 use Rattle.deciding.specs.Answers.{none}
 use Rattle.verdicts.specs.Calls.{Summary, VerdictReply, refused, says, alternative, written, summary, because}
 use Rattle.answers.specs.VerdictAnswers.{verdict_number_of, alt_answer_of}

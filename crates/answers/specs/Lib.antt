@@ -4,3 +4,4 @@ pub mod SetAnswers
 pub mod VerdictAnswers
 pub mod FiguresAnswers
 pub mod ReasonAnswers
+pub mod Entries

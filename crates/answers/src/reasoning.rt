@@ -4,9 +4,10 @@ ghost use Rattle.reasons.specs.Replies.{told};
 ghost use Rattle.answers.specs.ReasonAnswers.{reason_answer_of, reason_fields};
 
 use reasons::Reason;
+use words::Refusal;
 
 // A refusal's number, 0 where there is none; then which reason, 1 to 4 in the order in which they are tried, and what it
-// names of a state, its one alternative, and the context of a clash, 0 where it names none.
+// names of a state, its one alternative, and the context of a clash, 0 where it names none. Kept by the C interface: numbers.
 #[repr(C)]
 #[derive(Clone, Copy)]
 pub struct ReasonAnswer {
@@ -37,14 +38,14 @@ fn reason_fields(
 }
 
 // The answer with the reason; the alternatives of a clash stand in the output o.
-pub fn reason_answer(reason: Reason) -> ReasonAnswer
-    ensures { (o : List ℕ) → result ≡ reason_answer_of (told reason o) }
+pub fn reason_answer(answer: Result<Reason, Refusal>) -> ReasonAnswer
+    ensures { (o : List ℕ) → result ≡ reason_answer_of (told answer o) }
 {
-    match reason {
-        Reason::Stop => reason_fields(0, 1, 0, 0, 0),
-        Reason::NoClash => reason_fields(0, 2, 0, 0, 0),
-        Reason::One(state, alternative) => reason_fields(0, 3, state, alternative.0, 0),
-        Reason::Clash(state, context) => reason_fields(0, 4, state, 0, context.0),
-        Reason::Refused(refusal) => reason_fields(words::refusal_number(refusal), 0, 0, 0, 0),
+    match answer {
+        Ok(Reason::Stop) => reason_fields(0, 1, 0, 0, 0),
+        Ok(Reason::NoClash) => reason_fields(0, 2, 0, 0, 0),
+        Ok(Reason::One(state, alternative)) => reason_fields(0, 3, state, alternative.0, 0),
+        Ok(Reason::Clash(state, context)) => reason_fields(0, 4, state, 0, context.0),
+        Err(refusal) => reason_fields(u32::from(refusal), 0, 0, 0, 0),
     }
 }

@@ -1,4 +1,5 @@
 // The structs that cross the border, and those of a refusal.
+// Kept by the C interface: a flag or a number beside the value, where Rattle has Option and Result.
 ghost use Rattle.std.specs.Prelude.{◌≡◌};
 ghost use Rattle.words.specs.Refusals.{number};
 ghost use Rattle.answers.specs.Answers.{counted};
@@ -37,7 +38,7 @@ pub fn refusal_answer(refusal: Refusal) -> Answer
     ensures { (result.refusal ≡ number refusal) × (result.value ≡ 0) }
 {
     Answer {
-        refusal: words::refusal_number(refusal),
+        refusal: u32::from(refusal),
         value: 0,
     }
 }
@@ -47,7 +48,7 @@ pub fn refusal_entry(refusal: Refusal) -> EntryAnswer
     ensures { (result.refusal ≡ number refusal) × (result.found ≡ 0) × (result.value ≡ 0) }
 {
     EntryAnswer {
-        refusal: words::refusal_number(refusal),
+        refusal: u32::from(refusal),
         found: 0,
         value: 0,
     }
@@ -58,7 +59,7 @@ pub fn refusal_counted(refusal: Refusal) -> CountedAnswer
     ensures { result ≡ counted (number refusal) 0 0 0 }
 {
     CountedAnswer {
-        refusal: words::refusal_number(refusal),
+        refusal: u32::from(refusal),
         value: 0,
         merges: 0,
         made: 0,

@@ -1,13 +1,12 @@
 // The merges of a call, counted.
-ghost use Rattle.std.specs.Prelude.{◌≡◌, length};
+ghost use Rattle.std.specs.Prelude.{◌≡◌};
 ghost use Rattle.cache.specs.Cache.{Counts, merges_counted};
-ghost use Rattle.work.specs.Layout.{scratch_words};
 
 use crate::places::{MERGES, MOST_MERGES};
+use layout::ScratchWords;
 
 // Counts one merge more, if the ceiling is not reached.
-pub fn count_merge(scratch: &mut [u32]) -> bool
-    requires { length scratch.old ≡ scratch_words }
+pub fn count_merge(scratch: &mut ScratchWords) -> bool
     ensures { Counts scratch.old result scratch.new }
 {
     let counted = scratch[MERGES];
@@ -19,8 +18,7 @@ pub fn count_merge(scratch: &mut [u32]) -> bool
 }
 
 // How many merges were counted.
-pub fn merges_counted(scratch: &[u32]) -> u32
-    requires { length scratch.now ≡ scratch_words }
+pub fn merges_counted(scratch: &ScratchWords) -> u32
     ensures { result ≡ merges_counted scratch.now }
 {
     scratch[MERGES]

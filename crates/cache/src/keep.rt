@@ -1,16 +1,16 @@
 // The cache made empty, and a result kept.
-ghost use Rattle.std.specs.Prelude.{◌≡◌, ◌<◌, length};
+ghost use Rattle.std.specs.Prelude.{◌≡◌, ◌<◌};
 ghost use Rattle.cache.specs.Cache.{Asked, Emptied, Remembered, put_result};
-ghost use Rattle.work.specs.Layout.{most_contexts, scratch_words};
+ghost use Rattle.work.specs.Layout.{most_contexts};
 ghost use Rattle.work.specs.Counted.{most_results};
 
 use crate::keys::{bucket, merge_key};
 use crate::places::{BUCKETS, HEADS, KEPT, LINKS, MERGES, MOST_RESULTS, RESULTS};
+use layout::ScratchWords;
 use words::ContextId;
 
 // No result kept and no merge counted.
-pub fn clear_cache(scratch: &mut [u32])
-    requires { length scratch.old ≡ scratch_words }
+pub fn clear_cache(scratch: &mut ScratchWords)
     ensures { Emptied scratch.old scratch.new }
 {
     words::clear_range(scratch, HEADS, HEADS + BUCKETS);
@@ -19,8 +19,8 @@ pub fn clear_cache(scratch: &mut [u32])
 }
 
 // Writes a result at its place, in front of its bucket's chain.
-fn put_result(scratch: &mut [u32], place: usize, key: u32, res: u32)
-    requires { (length scratch.old ≡ scratch_words) × (place < most_results) × (key < 524288) × (res < most_contexts) }
+fn put_result(scratch: &mut ScratchWords, place: usize, key: u32, res: u32)
+    requires { (place < most_results) × (key < 524288) × (res < most_contexts) }
     ensures { scratch.new ≡ put_result scratch.old place key res }
 {
     let chain = bucket(key);
@@ -33,7 +33,7 @@ fn put_result(scratch: &mut [u32], place: usize, key: u32, res: u32)
 
 // Keeps the result of a merge while fewer than `MOST_RESULTS` are kept.
 pub fn remember(
-    scratch: &mut [u32],
+    scratch: &mut ScratchWords,
     left: ContextId,
     right: ContextId,
     root_is_wildcard: bool,

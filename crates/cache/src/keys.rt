@@ -19,12 +19,7 @@ pub fn merge_key(left: ContextId, right: ContextId, root_is_wildcard: bool) -> u
     requires { (left.0 < most_contexts) × (right.0 < most_contexts) }
     ensures { (result ≡ key_of root_is_wildcard (min left.0 right.0) (max left.0 right.0)) × (result < 524288) }
 {
-    let a = left.0;
-    let b = right.0;
-    if b < a {
-        return key_of(root_is_wildcard, b, a);
-    }
-    key_of(root_is_wildcard, a, b)
+    key_of(root_is_wildcard, left.0.min(right.0), left.0.max(right.0))
 }
 
 // The bucket of a key: the top 10 bits of the lower half of a product.

@@ -10,4 +10,4 @@ mod places;
 
 pub use count::{count_merge, merges_counted};
 pub use keep::{clear_cache, remember};
-pub use lookup::{Recall, cached};
+pub use lookup::cached;

@@ -1,4 +1,5 @@
 // Where the cache stands in the scratch's 16,384 words, and its two ceilings.
+// Kept by no heap: tables and chains by index in lent words, where Rattle has Vec and maps.
 
 // A word for each result, in order of completion: kind, sides and context in 1, 9, 9 and 9 bits.
 pub const RESULTS: usize = 2048;

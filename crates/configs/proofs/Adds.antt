@@ -1,5 +1,5 @@
 -- `add` put together: by key inserted or joined, after the checks that come first. Nothing here has to be believed.
-use Rattle.std.specs.Prelude.{◌≡◌, refl, Bool, ◌&&◌, ℕ, ◌-◌, ◌<◌, ◌≤◌, ltb, replicate}
+use Rattle.std.specs.Prelude.{◌≡◌, refl, Bool, ◌&&◌, ℕ, ◌-◌, ◌<◌, ◌≤◌, ltb, replicate, Ok, Err}
 use Rattle.std.proofs.Math.Path.{sym, ap}
 use Rattle.std.proofs.Common.{◌∙◌, lt-ltb, le-ltb}
 use Rattle.std.proofs.Math.Bool.{true, false, not}
@@ -13,13 +13,11 @@ use Rattle.arena.specs.Store.{Store, at, nowhere}
 use Rattle.arena.specs.Place.{merge_s}
 use Rattle.layout.specs.Layout.{count as contexts}
 use Rattle.layout.specs.Decode.{store_of}
-use Rattle.layout.specs.Encode.{words_of}
 use Rattle.encoding.specs.Decide.{fits}
 use Rattle.encoding.proofs.DecideLaws.{true_fits}
 use Rattle.store.specs.Admit.{cleared}
 use Rattle.store.specs.Counted.{Outcome, done, standing, counting, too_much, count_of}
 use Rattle.store.specs.Calls.{zeros, too_much_work, no_room}
-use Rattle.store.specs.declared.inner.admit.Admitted.TheVariants.{Ready as ready, Refused}
 use Rattle.contexts.specs.Live.{Live, ready_live}
 use Rattle.sets.specs.Config.{Config}
 use Rattle.sets.specs.Lists.{any}
@@ -27,7 +25,7 @@ use Rattle.words.specs.Bools.{bool?}
 use Rattle.sets.specs.Layout.{most_configs, config_at, config_count, flag}
 use Rattle.sets.specs.Sets.{Set, same_keys, held, with_configs, joined_all, Addition, add_to}
 use Rattle.sets.specs.Sets.Laws.{held_new}
-use Rattle.sets.specs.Words.{set_words, set_of}
+use Rattle.sets.specs.Words.{set_of}
 use Rattle.sets.specs.Chains.{last, last_found, last_none}
 use Rattle.sets.specs.Listed.{at_any, none_any}
 use Rattle.sets.proofs.Joined.{held_here}
@@ -35,7 +33,7 @@ use Rattle.sets.specs.Held.{HeldSet}
 use Rattle.sets.proofs.Sound.{sound_held}
 use Rattle.store.specs.Checks.{Check, given, unless}
 use Rattle.store.specs.Checks.Laws.{unless_first, unless_next, clear_goes, due_given}
-use Rattle.sets.specs.Calls.{SetReply, refused, added, SetLeft, set_left, adds_after, refusal, lent_lengths, lent_checks, add_work, add_checks, add_call}
+use Rattle.sets.specs.Calls.{refused, SetLeft, set_left, adds_after, refusal, lent_lengths, lent_checks, add_work, add_checks, add_call}
 use Rattle.setcheck.specs.Keys.{has_key, key_bucket, SoughtKey}
 use Rattle.setcheck.specs.Opened.{OpenedSet}
 use Rattle.configs.specs.Adding.{insert_call, join_to, join_call, add_rest, Addable, Joinable}
@@ -132,7 +130,7 @@ module _ {w v z : List ℕ} {x : Config} (a : Addable w v z x) where
 -- ---- the checks that come first
 
 module _ (w v z u : List ℕ) (x : Config) where
-  pub add_refused : (f : Refusal) → OpenedSet w v z (Refused f) u → set_left (refused (number f)) w v u ≡ add_call w v z x
+  pub add_refused : (f : Refusal) → OpenedSet w v z (Err f) u → set_left (refused (number f)) w v u ≡ add_call w v z x
   unfolding add_call add_checks lent_checks
   add_refused f o = sym (due_given _ _ (number f) (lent_checks (lent_lengths w v z) w v []) _ o.0 ∙ o.1)
 
@@ -154,7 +152,7 @@ module _ (w v z u : List ℕ) (x : Config) where
       (λ e. rw e (bool? (too_much (add_work (store_of w) (set_of v) x)) (λ t. rw t)
       (λ t. rw t (bool? (fits (add_to (store_of w) (set_of v) x).store) (λ f. rw f) (λ f. rw f)))))
 
-  module _ (o : OpenedSet w v z ready u) where
+  module _ (o : OpenedSet w v z (Ok tt) u) where
     after_lent : add_call w v z x ≡ unless (given 7 (flag 8 v) ∷ given 4 (not (ltb x.context (contexts w))) ∷ last_three) (refusal w v z) go
     unfolding add_call add_checks lent_checks
     after_lent = clear_goes (refusal w v z) go (lent_checks (lent_lengths w v z) w v []) _ o.1

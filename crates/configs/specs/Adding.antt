@@ -4,7 +4,6 @@ use Rattle.arena.specs.Store.{Store}
 use Rattle.arena.specs.Place.{merge_s}
 use Rattle.layout.specs.Layout.{count as contexts}
 use Rattle.layout.specs.Decode.{store_of}
-use Rattle.layout.specs.Encode.{words_of}
 use Rattle.store.specs.Counted.{Outcome, counting, count_of}
 use Rattle.store.specs.Calls.{zeros, too_much_work, no_room}
 use Rattle.sets.specs.Config.{Config}

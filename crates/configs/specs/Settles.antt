@@ -1,5 +1,5 @@
 -- A set made afresh and a set closed: the words that they leave. Nothing here has to be believed.
-use Rattle.std.specs.Prelude.{◌≡◌, refl, Bool, eqb, get_or}
+use Rattle.std.specs.Prelude.{◌≡◌, refl, Bool, eqb, get_or, Ok, Err}
 use Rattle.std.proofs.Math.Path.{sym, ap}
 use Rattle.std.proofs.Common.{◌∙◌, arith, length-set, get_or-set_same, get_or-set_other, eq-eqb, ne_eqb}
 use Rattle.std.proofs.Math.Bool.{true, false, not}
@@ -11,7 +11,6 @@ use Rattle.words.specs.Refusals.{number}
 use Rattle.words.specs.declared.refusals.Refusal.{Refusal}
 use Rattle.store.specs.Admit.{cleared}
 use Rattle.store.specs.Calls.{zeros}
-use Rattle.store.specs.declared.inner.admit.Admitted.TheVariants.{Ready as ready, Refused}
 use Rattle.sets.specs.Lists.{any}
 use Rattle.sets.specs.Layout.{first_config, set_words_length, config_count, flag_word}
 use Rattle.sets.specs.Sets.{Set, empty_set, closed_set, has_semantic, dips}
@@ -98,11 +97,11 @@ closed_held v S h n e =
     }
 
 module _ (w v z u : List ℕ) where
-  pub close_refused : (f : Refusal) → OpenedSet w v z (Refused f) u → set_left (refused (number f)) w v u ≡ close_call w v z
+  pub close_refused : (f : Refusal) → OpenedSet w v z (Err f) u → set_left (refused (number f)) w v u ≡ close_call w v z
   unfolding close_call lent_checks
   close_refused f o = sym (due_given _ _ (number f) (lent_checks (lent_lengths w v z) w v []) [] o.0 ∙ o.1)
 
-  pub close_done : OpenedSet w v z ready u → (n : ℕ) → n ≡ flag_word v → (b : ℕ) → b ≡ with_flag n 8 1 → (x : List ℕ) → x ≡ replicate (length u) 0
+  pub close_done : OpenedSet w v z (Ok tt) u → (n : ℕ) → n ≡ flag_word v → (b : ℕ) → b ≡ with_flag n 8 1 → (x : List ℕ) → x ≡ replicate (length u) 0
       → set_left done w (set v 1 b) x ≡ close_call w v z
   unfolding close_call lent_checks unless
   close_done o n e b eb x ex =

@@ -7,4 +7,4 @@ mod settle;
 mod write;
 
 pub use adding::{Added, add};
-pub use settle::{Settled, close, fresh_set};
+pub use settle::{close, fresh_set};

@@ -48,7 +48,8 @@ use Rattle.contexts.specs.MergeCall.{merge_checks, merge_call}
 use Rattle.contexts.specs.MergeCall.Laws.{merge_nested, worked_sides}
 use Rattle.contexts.specs.Replies.{merged}
 use Rattle.contexts.specs.declared.merges.Merged.{Merged}
-use Rattle.contexts.specs.declared.merges.Merged.TheVariants.{Number, Refused}
+use Rattle.std.specs.Prelude.{Result, Ok, Err}
+use Rattle.words.specs.declared.refusals.Refusal.{Refusal}
 
 -- ---- an accepted merge
 
@@ -228,24 +229,26 @@ module _ (w z : List ℕ) (a b : ℕ) (m : Bool) (n : ℕ) where
 
 -- ---- any two outcomes that satisfy the contract for the same input are equal
 
-merged_tells : (a b : Merged) (u v y x : List ℕ) → merged a u y ≡ merged b v x → a ≡ b
-merged_tells (Number c n) (Number d k) u v y x e =
-    let f : context c.0 ≡ context d.0 = ap (λ (o : Left). o.reply) e in
-    let i : c.0 ≡ d.0 = cc in
-    ap (λ (j : ℕ). Number (record { 0 = j }) n) i ∙
-    ap (λ (j : ℕ). Number d (record { merges = j; made = n.made })) (ap (λ (o : Left). o.merges) e) ∙
-    ap (λ (j : ℕ). Number d (record { merges = k.merges; made = j })) (ap (λ (o : Left). o.made) e)
-merged_tells (Number c n) (Refused g) u v y x e = let f : context c.0 ≡ refused (number g) = ap (λ (o : Left). o.reply) e in cc
-merged_tells (Refused f) (Number d k) u v y x e = let g : refused (number f) ≡ context d.0 = ap (λ (o : Left). o.reply) e in cc
-merged_tells (Refused f) (Refused g) u v y x e = ap Refused (number_tells f g (ap (λ (o : Left). o.reply) e))
+merged_tells : (a b : Result Merged Refusal) (u v y x : List ℕ) → merged a u y ≡ merged b v x → a ≡ b
+merged_tells (Ok c) (Ok d) u v y x e =
+    let f : context c.context.0 ≡ context d.context.0 = ap (λ (o : Left). o.reply) e in
+    let i : c.context.0 ≡ d.context.0 = cc in
+    let n : c.tally.merges ≡ d.tally.merges = ap (λ (o : Left). o.merges) e in
+    let k : c.tally.made ≡ d.tally.made = ap (λ (o : Left). o.made) e in
+    ap (λ (j : ℕ). Ok (record { context = record { 0 = j }; tally = c.tally })) i ∙
+    ap (λ (j : ℕ). Ok (record { context = d.context; tally = record { merges = j; made = c.tally.made } })) n ∙
+    ap (λ (j : ℕ). Ok (record { context = d.context; tally = record { merges = d.tally.merges; made = j } })) k
+merged_tells (Ok c) (Err g) u v y x e = let f : context c.context.0 ≡ refused (number g) = ap (λ (o : Left). o.reply) e in cc
+merged_tells (Err f) (Ok d) u v y x e = let g : refused (number f) ≡ context d.context.0 = ap (λ (o : Left). o.reply) e in cc
+merged_tells (Err f) (Err g) u v y x e = ap Err (number_tells f g (ap (λ (o : Left). o.reply) e))
 
-words_tell : (a b : Merged) (u v y x : List ℕ) → merged a u y ≡ merged b v x → (u ≡ v) × (y ≡ x)
-words_tell (Number c n) (Number d k) u v y x e = (ap (λ (o : Left). o.store) e, ap (λ (o : Left). o.scratch) e)
-words_tell (Number c n) (Refused g) u v y x e = (ap (λ (o : Left). o.store) e, ap (λ (o : Left). o.scratch) e)
-words_tell (Refused f) (Number d k) u v y x e = (ap (λ (o : Left). o.store) e, ap (λ (o : Left). o.scratch) e)
-words_tell (Refused f) (Refused g) u v y x e = (ap (λ (o : Left). o.store) e, ap (λ (o : Left). o.scratch) e)
+words_tell : (a b : Result Merged Refusal) (u v y x : List ℕ) → merged a u y ≡ merged b v x → (u ≡ v) × (y ≡ x)
+words_tell (Ok c) (Ok d) u v y x e = (ap (λ (o : Left). o.store) e, ap (λ (o : Left). o.scratch) e)
+words_tell (Ok c) (Err g) u v y x e = (ap (λ (o : Left). o.store) e, ap (λ (o : Left). o.scratch) e)
+words_tell (Err f) (Ok d) u v y x e = (ap (λ (o : Left). o.store) e, ap (λ (o : Left). o.scratch) e)
+words_tell (Err f) (Err g) u v y x e = (ap (λ (o : Left). o.store) e, ap (λ (o : Left). o.scratch) e)
 
-pub merge_determined : (w z : List ℕ) (l r : ℕ) (m : Bool) (a b : Merged) (u v y x : List ℕ)
+pub merge_determined : (w z : List ℕ) (l r : ℕ) (m : Bool) (a b : Result Merged Refusal) (u v y x : List ℕ)
     → merged a u y ≡ merge_call w z l r m → merged b v x ≡ merge_call w z l r m → (a ≡ b) × (u ≡ v) × (y ≡ x)
 merge_determined w z l r m a b u v y x p q =
     let e : merged a u y ≡ merged b v x = p ∙ sym q in

@@ -7,8 +7,8 @@ ghost use Rattle.contexts.specs.MergeCall.{merge_call};
 ghost use Rattle.contexts.specs.MergeCall.Laws.{merged_known};
 ghost use Rattle.contexts.specs.Replies.{merged};
 
-use interning::Numbered;
-use store::inner::admit::{Admitted, admit};
+use layout::{ScratchWords, StoreWords};
+use store::inner::admit::admit;
 use store::inner::cut::cut_back;
 use words::{ContextId, Refusal};
 
@@ -19,21 +19,21 @@ pub struct Tally {
     pub made: u32,
 }
 
-// What a merge answers: the context's number, and what was counted.
+// The context of a merge, and what was counted.
 #[derive(Clone, Copy)]
-pub enum Merged {
-    Number(ContextId, Tally),
-    Refused(Refusal),
+pub struct Merged {
+    pub context: ContextId,
+    pub tally: Tally,
 }
 
 // Merges two known contexts of a live store. Without room, or with too much work, what was made is taken out again.
 pub fn merge_known(
-    store: &mut [u32],
-    scratch: &mut [u32],
+    store: &mut StoreWords,
+    scratch: &mut ScratchWords,
     left: ContextId,
     right: ContextId,
     root_is_wildcard: bool,
-) -> Merged
+) -> Result<Merged, Refusal>
     requires { Live store.old scratch.old × (left.0 < count store.old) × (right.0 < count store.old) }
     ensures { merged result store.new scratch.new ≡ merged_known store.old left.0 right.0 root_is_wildcard }
 {
@@ -42,15 +42,19 @@ pub fn merge_known(
     cache::clear_cache(scratch);
     let outcome = merging::merge(store, scratch, left, right, root_is_wildcard, 0);
     match outcome {
-        Numbered::Number(context, made) => {
+        Ok(merged) => {
             let merges = cache::merges_counted(scratch);
+            let made = merged.made;
             words::clear(scratch);
-            Merged::Number(context, Tally { merges, made })
+            Ok(Merged {
+                context: merged.context,
+                tally: Tally { merges, made },
+            })
         }
-        Numbered::Refused(refusal) => {
+        Err(refusal) => {
             cut_back(store, count, used);
             words::clear(scratch);
-            Merged::Refused(refusal)
+            Err(refusal)
         }
     }
 }
@@ -62,17 +66,16 @@ pub fn merge(
     left: ContextId,
     right: ContextId,
     root_is_wildcard: bool,
-) -> Merged
+) -> Result<Merged, Refusal>
     ensures { merged result store.new scratch.new
         ≡ merge_call store.old scratch.old left.0 right.0 root_is_wildcard }
 {
-    let admitted = admit(store, scratch, left);
-    if let Admitted::Refused(refusal) = admitted {
-        return Merged::Refused(refusal);
-    }
+    let store = store.as_mut_array().ok_or(Refusal::WrongLength)?;
+    let scratch = scratch.as_mut_array().ok_or(Refusal::WrongLength)?;
+    admit(store, scratch, left)?;
     if layout::count_of(store) <= right.0 {
         words::clear(scratch);
-        return Merged::Refused(Refusal::UnknownContext);
+        return Err(Refusal::UnknownContext);
     }
     merge_known(store, scratch, left, right, root_is_wildcard)
 }

@@ -1,6 +1,8 @@
 -- A state that is listed, and configs in listed states. Nothing here has to be believed.
 use Rattle.std.specs.Prelude.{◌≡◌, refl, Bool, true, false, List, [], ◌∷◌, ℕ, zero, suc, ◌<◌, eqb, length, get_or}
+use Rattle.std.specs.List.{list_any}
 use Rattle.std.proofs.Common.{sym, arith, eq-eqb, ne_eqb}
+use Rattle.words.specs.Numbers.{two}
 use Rattle.groups.specs.Config.{Config}
 use Rattle.groups.specs.Layout.{config_at, config_count}
 use Rattle.groups.specs.SetsLists.{any}
@@ -14,6 +16,15 @@ use Rattle.grouping.specs.declared.inner.traits.Alike.TheVariants.{State}
 use Rattle.grouping.specs.declared.inner.marks.Picks.TheVariants.{Rivals}
 use Rattle.deciding.specs.Alone.{Counted}
 use Rattle.deciding.specs.Picked.{states_picked}
+
+pub eqb_swap : (a b : ℕ) → eqb a b ≡ eqb b a
+eqb_swap a b = two a b (λ e. rw e refl) (λ d. rw (ne_eqb a b d, ne_eqb b a (λ e. d (sym e))))
+
+-- what the library's `contains` says
+pub listed : (xs : List ℕ) (s : ℕ) → list_any (λ y. eqb y s) xs ≡ any (eqb s) xs
+unfolding any
+listed [] s = refl
+listed (x ∷ xs) s = rw (eqb_swap x s, listed xs s)
 
 pub listed_found : (xs : List ℕ) (s i : ℕ) → i < length xs → get_or xs i 0 ≡ s → any (eqb s) xs ≡ true
 unfolding any

@@ -13,7 +13,7 @@ use Rattle.work.specs.Reads.{kind?, array_entries, array_fits}
 use Rattle.interning.specs.Asks.{Known}
 use Rattle.work.proofs.Heads.{head_state, head_parent}
 use Rattle.entries.specs.EntriesFrom.{rest, entry_listing}
-use Rattle.entries.specs.declared.pairs.Entry.{Entry}
+use Rattle.layout.specs.declared.entry.Entry.{Entry}
 
 -- the entry of a record at an index
 abbrev pub IsEntry : Node → ℕ → Entry → Type 0
@@ -49,6 +49,9 @@ module _ {w : List ℕ} {c : ℕ} (k : Known w c) where
 
   pub is_many : (kind w c ≡ 0 → ⊥) → (kind w c ≡ 1 → ⊥) → kind w c ≡ 2
   is_many n m = kind? w k.sound c k.below (λ e. absurd (n e)) (λ e. absurd (m e)) (λ e. e)
+
+  pub is_root : (kind w c ≡ 1 → ⊥) → (kind w c ≡ 2 → ⊥) → kind w c ≡ 0
+  is_root n m = kind? w k.sound c k.below (λ e. e) (λ e. absurd (n e)) (λ e. absurd (m e))
 
   -- the entry at an index
 

@@ -25,8 +25,10 @@ use Rattle.entries.specs.EntriesFrom.{rest, rest_next, rest_size, rest_none, siz
 use Rattle.entries.specs.StackAhead.{onto_listing}
 use Rattle.entries.specs.StackEntry.{Under, under_le}
 use Rattle.entries.specs.Laying.{Stacks, ahead, SameBelow, Next, Laid, lay}
-use Rattle.interning.specs.declared.inner.intern.Interned.{Interned}
-use Rattle.interning.specs.declared.inner.intern.Interned.TheVariants.{Found, Made, NoRoom}
+use Rattle.std.specs.Prelude.{Result, Ok, Err}
+use Rattle.words.specs.declared.refusals.Refusal.{Refusal}
+use Rattle.words.specs.declared.refusals.Refusal.TheVariants.{FullStore}
+use Rattle.interning.specs.declared.numbered.Numbered.{Numbered}
 
 -- n entries from `top` on, to be followed by those of the context c from i on
 pub record Finishing (w z : List ℕ) (c i top n : ℕ) : Type 0 where
@@ -48,10 +50,9 @@ pub record Extended (z : List ℕ) (top : ℕ) (x : ℕ × Store) (d : ℕ) (w u
   pub same : (e : ℕ) → 2048 ≤ e → e < 7936 + 2 * top → get_or u e 0 ≡ get_or z e 0
   pub after : (e : ℕ) → 16336 ≤ e → get_or u e 0 ≡ get_or z e 0
 
-abbrev pub Extends : List ℕ → List ℕ → ℕ → ℕ × Store → Interned → List ℕ → List ℕ → Type 0
-Extends w z top x (Found d) v u = Extended z top x d.0 v u × More w 0 v
-Extends w z top x (Made d) v u = Extended z top x d.0 v u × More w 1 v
-Extends w z top x NoRoom v u = (Fits x.1 → ⊥) × (v ≡ w) × (length u ≡ scratch_words)
+abbrev pub Extends : List ℕ → List ℕ → ℕ → ℕ × Store → Result Numbered Refusal → List ℕ → List ℕ → Type 0
+Extends w z top x (Ok d) v u = Extended z top x d.context.0 v u × More w d.made v × (d.made ≤ 1)
+Extends w z top x (Err f) v u = (f ≡ FullStore) × (Fits x.1 → ⊥) × (v ≡ w) × (length u ≡ scratch_words)
 
 -- a live store's context can be read
 pub live_known : {w z : List ℕ} → Live w z → (c : ℕ) → c < length (store_of w) → Known w c
@@ -141,14 +142,12 @@ module _ {w z₀ : List ℕ} {c i₀ top n₀ : ℕ} {z : List ℕ} {i n : ℕ} 
     after = λ e a. g.above e (omega arith) ∙ v.after e a;
   }
 
-  pub finished : (r : Interned) (w' u : List ℕ) → Interns w z top n r w' u → Extends w z₀ top (whole w z₀ c i₀ top n₀) r w' u
-  finished (Found d) w' u g = (reached d.0 w' u g.0, g.1)
-  finished (Made d) w' u g = (reached d.0 w' u g.0, g.1)
-  finished NoRoom w' u g = (λ f. g.0 (rw (tail_done v h).1 f), g.1, ap length g.2 ∙ v.now.live.index.sized)
+  pub finished : (r : Result Numbered Refusal) (w' u : List ℕ) → Interns w z top n r w' u → Extends w z₀ top (whole w z₀ c i₀ top n₀) r w' u
+  finished (Ok d) w' u g = (reached d.context.0 w' u g.0, g.1, g.2)
+  finished (Err f) w' u g = (g.0, λ f. g.1 (rw (tail_done v h).1 f), g.2, ap length g.3 ∙ v.now.live.index.sized)
 
 -- whatever it answers, lengths are kept
-pub extends_lengths : {w z : List ℕ} {c i top n : ℕ} → Finishing w z c i top n → (r : Interned) (w' u : List ℕ) → Extends w z top (whole w z c i top n) r w' u
+pub extends_lengths : {w z : List ℕ} {c i top n : ℕ} → Finishing w z c i top n → (r : Result Numbered Refusal) (w' u : List ℕ) → Extends w z top (whole w z c i top n) r w' u
     → (length w' ≡ store_words) × (length u ≡ scratch_words)
-extends_lengths v (Found x) w' u g = (live_length g.0.live, g.0.live.index.sized)
-extends_lengths v (Made x) w' u g = (live_length g.0.live, g.0.live.index.sized)
-extends_lengths v NoRoom w' u g = (ap length g.1 ∙ live_length v.live, g.2)
+extends_lengths v (Ok x) w' u g = (live_length g.0.live, g.0.live.index.sized)
+extends_lengths v (Err f) w' u g = (ap length g.2 ∙ live_length v.live, g.3)

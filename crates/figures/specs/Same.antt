@@ -1,5 +1,5 @@
 -- The figures are the four calls' answers, and are refused exactly when the verdict is; any two answers are equal. Nothing here has to be believed.
-use Rattle.std.specs.Prelude.{◌≡◌, refl, ◌↔◌, ℕ, length}
+use Rattle.std.specs.Prelude.{◌≡◌, refl, ◌↔◌, ℕ, length, Result, Ok, Err}
 use Rattle.std.proofs.Math.Path.{sym, ap}
 use Rattle.std.proofs.Common.{◌∙◌, arith, eq-eqb}
 use mathlib.Core.List.{List, []}
@@ -19,8 +19,8 @@ use Rattle.verdicts.specs.Calls.{conflicting_alt_subsets_call, unique_alt_call, 
 use Rattle.verdicts.specs.Refused.{refusal_reply, ask_refuses, Refuses, verdict_refuses}
 use Rattle.figures.specs.Calls.{figures_of, figures_call}
 use Rattle.figures.specs.Replies.{summary_of, told}
-use Rattle.figures.specs.declared.answers.Told.{Told}
-use Rattle.figures.specs.declared.answers.Told.TheVariants.{All, Refused}
+use Rattle.figures.specs.declared.answers.Figures.{Figures}
+use Rattle.words.specs.declared.refusals.Refusal.{Refusal}
 
 summary_no : (f : Summary) (k : ℕ) → summary f ≡ refused k → ⊥
 summary_no f k e = let q : ◌≡◌ {A = ℕ} 0 1 = cc in omega arith
@@ -90,21 +90,21 @@ module _ (w v z stops : List ℕ) where
 
 -- ---- a reply tells the answer
 
-told_tells : (a b : Told) → told a ≡ told b → a ≡ b
-told_tells (All f) (All g) e =
+told_tells : (a b : Result Figures Refusal) → told a ≡ told b → a ≡ b
+told_tells (Ok f) (Ok g) e =
     let s : summary_of f ≡ summary_of g = cc in
     let n : f.subsets ≡ g.subsets = ap (λ (x : Summary). x.subsets) s in
     let u : f.unique ≡ g.unique = one_tells f.unique g.unique (ap (λ (x : Summary). x.unique) s) in
     let v : f.viable ≡ g.viable = one_tells f.viable g.viable (ap (λ (x : Summary). x.viable) s) in
     let d : f.verdict ≡ g.verdict = ap (λ (x : Summary). x.verdict) s in
     let q : f ≡ g = rw (n, u, v, d) refl in
-    ap All q
-told_tells (All f) (Refused g) e = cc
-told_tells (Refused f) (All g) e = cc
-told_tells (Refused f) (Refused g) e = let n : number f ≡ number g = cc in ap Refused (number_tells f g (ap storeRefused n))
+    ap Ok q
+told_tells (Ok f) (Err g) e = cc
+told_tells (Err f) (Ok g) e = cc
+told_tells (Err f) (Err g) e = let n : number f ≡ number g = cc in ap Err (number_tells f g (ap storeRefused n))
 
 -- two outcomes that satisfy the call's equation for the same input are equal: answer and every word
-pub figures_determined : (l : VerdictLeft) (u x p q : List ℕ) (a b : Told) → verdict_left (told a) u p ≡ l → verdict_left (told b) x q ≡ l → (a ≡ b) × (u ≡ x) × (p ≡ q)
+pub figures_determined : (l : VerdictLeft) (u x p q : List ℕ) (a b : Result Figures Refusal) → verdict_left (told a) u p ≡ l → verdict_left (told b) x q ≡ l → (a ≡ b) × (u ≡ x) × (p ≡ q)
 figures_determined l u x p q a b d e =
     let f = d ∙ sym e in
     (told_tells a b (ap (λ (m : VerdictLeft). m.reply) f), ap (λ (m : VerdictLeft). m.scratch) f, ap (λ (m : VerdictLeft). m.output) f)

@@ -1,19 +1,11 @@
-// What the call answers.
-use deciding::inner::single::OneAlt;
-use words::Refusal;
+// What the call answers, where it is not refused.
+use words::Alternative;
 
 // The number of subsets, the alternative of every config, the smallest of every subset, the verdict.
 #[derive(Clone, Copy)]
 pub struct Figures {
     pub subsets: u32,
-    pub unique: OneAlt,
-    pub viable: OneAlt,
+    pub unique: Option<Alternative>,
+    pub viable: Option<Alternative>,
     pub verdict: bool,
-}
-
-// All of them, or a refusal, which carries its number and nothing else.
-#[derive(Clone, Copy)]
-pub enum Told {
-    All(Figures),
-    Refused(Refusal),
 }

@@ -6,13 +6,12 @@ ghost use Rattle.verdicts.specs.Calls.{verdict_left};
 ghost use Rattle.figures.specs.Calls.{figures_call, figures_of};
 ghost use Rattle.figures.specs.Replies.{summary_of, told};
 
-use crate::answers::{Figures, Told};
+use crate::answers::Figures;
 use deciding::inner::single::{common_alt, viable_alt};
 use deciding::inner::verdict::{MOST_STOPS, decide};
 use grouping::inner::lead::lead_all;
 use grouping::inner::traits::Alike;
 use setcheck::inner::open::open_set;
-use store::inner::admit::Admitted;
 use words::Refusal;
 
 // The figures of a set that is known to be sound.
@@ -26,26 +25,28 @@ fn all_figures(set: &[u32], scratch: &mut [u32], stops: &[u32]) -> Figures
     let verdict = decide(set, scratch, stops);
     Figures {
         subsets: subsets as u32,
-        unique: unique,
-        viable: viable,
-        verdict: verdict,
+        unique,
+        viable,
+        verdict,
     }
 }
 
 // How many subsets, which unique and which viable alternative, and what verdict with these stop states?
-pub fn figures(store: &[u32], set: &[u32], scratch: &mut [u32], stops: &[u32]) -> Told
+pub fn figures(
+    store: &[u32],
+    set: &[u32],
+    scratch: &mut [u32],
+    stops: &[u32],
+) -> Result<Figures, Refusal>
     ensures { verdict_left (told result) scratch.new []
         ≡ figures_call store.now set.now scratch.old stops.now }
 {
-    let opened = open_set(store, set, scratch);
-    if let Admitted::Refused(refusal) = opened {
-        return Told::Refused(refusal);
-    }
+    open_set(store, set, scratch)?;
     if MOST_STOPS < stops.len() {
         words::clear(scratch);
-        return Told::Refused(Refusal::TooManyStops);
+        return Err(Refusal::TooManyStops);
     }
     let all = all_figures(set, scratch, stops);
     words::clear(scratch);
-    Told::All(all)
+    Ok(all)
 }

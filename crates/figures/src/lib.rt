@@ -5,5 +5,5 @@
 mod answers;
 mod call;
 
-pub use answers::{Figures, Told};
+pub use answers::Figures;
 pub use call::figures;

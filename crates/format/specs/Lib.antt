@@ -4,8 +4,8 @@ pub mod Bytes
 pub mod Payloads
 pub mod Table
 pub mod Format
-pub mod Whole
 pub mod Answers
+pub mod Whole
 pub mod Determined
 pub use Rattle.setcheck.specs.Decode
 pub use Rattle.setcheck.specs.Store

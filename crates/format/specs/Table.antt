@@ -1,4 +1,4 @@
--- How the code's table writes a payload down: a length, or a mark. Nothing here has to be believed: `accepts` says what a payload may be.
+-- How a table of numbers writes a payload down: a length, or a mark. Nothing here has to be believed: `accepts` says what a payload may be.
 use Rattle.std.specs.Prelude.{Bool, true, false, ℕ, ◌%◌, eqb, ltb}
 use Rattle.format.specs.Payloads.{Payload, exactly, fours, none}
 
@@ -15,7 +15,7 @@ entry (exactly n) = n
 entry fours = variable
 entry none = no_kind
 
--- what an entry of the table accepts
+-- what an entry of such a table accepts
 unfoldable pub entry_accepts : ℕ → ℕ → Bool
 entry_accepts e n =
     elim (ltb e no_kind) [

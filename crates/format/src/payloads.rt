@@ -1,37 +1,24 @@
-// The payload that each kind of record must have: a table with a length or a mark for each kind.
+// The payload that each kind of record must have.
 ghost use Rattle.std.specs.Prelude.{◌≡◌};
 ghost use Rattle.format.specs.Payloads.{accepts, payload_of};
-ghost use Rattle.format.specs.Table.{entry};
 
-// Any multiple of 4.
-const VARIABLE: u32 = 16384;
-
-// No kind.
-const NO_KIND: u32 = 32768;
-
-// By kind: none, singleton, merge, new set, add, stop states, verdict, show, close, why.
-const PAYLOADS: [u32; 10] = [NO_KIND, 12, 9, 1, 24, VARIABLE, 0, 4, 0, 0];
-
-// The table's entry of a kind; a kind past the table is none.
-fn entry_of(kind: usize) -> u32
-    ensures { result ≡ entry (payload_of kind) }
-{
-    if 9 < kind {
-        return NO_KIND;
-    }
-    PAYLOADS[kind]
-}
-
-// May a record of this kind have so many bytes of payload?
+// May a record of this kind have so many bytes of payload? By kind: singleton, merge, new set, add,
+// stop states, verdict, show, close, why.
+// Kept as numbers: an enum of kinds between here and `read_payload` would name each kind once more than these two do.
+#[tactic(auto, unfolding(crate::specs::Payloads::accepts, crate::specs::Payloads::payload_of, crate::specs::Payloads::payloads))]
 pub fn payload_fits(kind: u32, length: u32) -> bool
     ensures { result ≡ accepts (payload_of kind) length }
 {
-    let entry = entry_of(kind as usize);
-    if NO_KIND <= entry {
-        return false;
+    match kind {
+        1 => length == 12,
+        2 => length == 9,
+        3 => length == 1,
+        4 => length == 24,
+        5 => length % 4 == 0,
+        6 => length == 0,
+        7 => length == 4,
+        8 => length == 0,
+        9 => length == 0,
+        _ => false,
     }
-    if entry == VARIABLE {
-        return length % 4 == 0;
-    }
-    length == entry
 }

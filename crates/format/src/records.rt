@@ -4,15 +4,12 @@ ghost use Rattle.setcheck.specs.Configs.{config_of};
 ghost use Rattle.format.specs.Answers.{Placed, reading};
 ghost use Rattle.format.specs.Bytes.{u16_at};
 ghost use Rattle.format.specs.Format.{config_from, payload_at, read_at, record_at};
-ghost use Rattle.format.specs.Whole.{NoContexts, Whole};
+ghost use Rattle.format.specs.Whole.{ModeIs, PayloadPlaced, Whole, payload_reading};
 
 use crate::inner::bytes::{u16_at, u32_at, u64_at};
 use crate::payloads::payload_fits;
 use setcheck::AtnConfig;
 use words::{Alternative, ContextId, ReturnState, SemanticId};
-
-// The modes are 0, full, and 1, wildcard.
-const LAST_MODE: u8 = 1;
 
 // A record on the set: a new one, and whether it merges by wildcard; a config to add; a verdict; a
 // set to close; why the verdict is what it is.
@@ -37,6 +34,7 @@ pub enum Record {
 }
 
 // What stands at a place: a record, with the place of the next one; the end; or what no record is.
+// Kept for its three outcomes, matched at once: a Result of an Option would nest them, and want an error type of its own.
 #[derive(Clone, Copy)]
 pub enum Step {
     Found(Record, usize),
@@ -44,33 +42,19 @@ pub enum Step {
     Malformed,
 }
 
-// Reads a merge, whose payload of 9 bytes starts at `at`.
-fn read_merge(bytes: &[u8], at: usize, next: usize) -> Step
-    requires { at + 9 ≤ length bytes.now }
-    ensures { (reading bytes.now result ≡ payload_at bytes.now 2 at next) × Placed bytes.now result }
+// Reads a mode: 0 is full, 1 is wildcard, and there is no other.
+fn read_mode(byte: u8) -> Option<bool>
+    ensures { ModeIs byte result }
 {
-    let left = ContextId(u32_at(bytes, at));
-    let right = ContextId(u32_at(bytes, at + 4));
-    let mode = bytes[at + 8];
-    if LAST_MODE < mode {
-        return Step::Malformed;
+    match byte {
+        0 => Some(false),
+        1 => Some(true),
+        _ => None,
     }
-    Step::Found(Record::Merge(left, right, mode == 1), next)
-}
-
-// Reads a new set, whose payload of 1 byte stands at `at`.
-fn read_new_set(bytes: &[u8], at: usize, next: usize) -> Step
-    requires { at + 1 ≤ length bytes.now }
-    ensures { (reading bytes.now result ≡ payload_at bytes.now 3 at next) × Placed bytes.now result }
-{
-    let mode = bytes[at];
-    if LAST_MODE < mode {
-        return Step::Malformed;
-    }
-    Step::Found(Record::OnSet(SetRecord::NewSet(mode == 1)), next)
 }
 
 // Reads a config, of 24 bytes from `at` on.
+#[tactic(auto, unfolding(crate::specs::Format::config_from))]
 fn read_config(bytes: &[u8], at: usize) -> AtnConfig
     requires { at + 24 ≤ length bytes.now }
     ensures { config_of result ≡ config_from bytes.now at }
@@ -85,53 +69,40 @@ fn read_config(bytes: &[u8], at: usize) -> AtnConfig
     }
 }
 
-// Reads a payload of a record on sets, of the right length, from `at` to `next`.
-fn read_set_payload(bytes: &[u8], kind: u32, at: usize, next: usize) -> Step
-    requires { Whole bytes.now kind at next × NoContexts kind }
-    ensures { (reading bytes.now result ≡ payload_at bytes.now kind at next) × Placed bytes.now result }
-{
-    if kind == 3 {
-        return read_new_set(bytes, at, next);
-    }
-    if kind == 4 {
-        let config = read_config(bytes, at);
-        return Step::Found(Record::OnSet(SetRecord::Add(config)), next);
-    }
-    if kind == 5 {
-        return Step::Found(Record::Stops(at, (next - at) / 4), next);
-    }
-    if kind == 6 {
-        return Step::Found(Record::OnSet(SetRecord::Verdict), next);
-    }
-    if kind == 8 {
-        return Step::Found(Record::OnSet(SetRecord::Close), next);
-    }
-    if kind == 9 {
-        return Step::Found(Record::OnSet(SetRecord::Why), next);
-    }
-    Step::Malformed
-}
-
 // Reads a payload of the right length, from `at` to `next`.
-fn read_payload(bytes: &[u8], kind: u32, at: usize, next: usize) -> Step
+#[tactic(auto, using(crate::specs::Format::Laws::payload_laws))]
+fn read_payload(bytes: &[u8], kind: u32, at: usize, next: usize) -> Option<Record>
     requires { Whole bytes.now kind at next }
-    ensures { (reading bytes.now result ≡ payload_at bytes.now kind at next) × Placed bytes.now result }
+    ensures { (payload_reading bytes.now next result ≡ payload_at bytes.now kind at next) × PayloadPlaced bytes.now next result }
 {
-    if kind == 1 {
-        let parent = ContextId(u32_at(bytes, at));
-        let state = ReturnState(u64_at(bytes, at + 4));
-        return Step::Found(Record::Singleton(parent, state), next);
+    match kind {
+        1 => {
+            let parent = ContextId(u32_at(bytes, at));
+            let state = ReturnState(u64_at(bytes, at + 4));
+            Some(Record::Singleton(parent, state))
+        }
+        2 => {
+            let left = ContextId(u32_at(bytes, at));
+            let right = ContextId(u32_at(bytes, at + 4));
+            let wildcard = read_mode(bytes[at + 8])?;
+            Some(Record::Merge(left, right, wildcard))
+        }
+        3 => {
+            let wildcard = read_mode(bytes[at])?;
+            Some(Record::OnSet(SetRecord::NewSet(wildcard)))
+        }
+        4 => Some(Record::OnSet(SetRecord::Add(read_config(bytes, at)))),
+        5 => Some(Record::Stops(at, (next - at) / 4)),
+        6 => Some(Record::OnSet(SetRecord::Verdict)),
+        7 => Some(Record::Show(ContextId(u32_at(bytes, at)))),
+        8 => Some(Record::OnSet(SetRecord::Close)),
+        9 => Some(Record::OnSet(SetRecord::Why)),
+        _ => None,
     }
-    if kind == 2 {
-        return read_merge(bytes, at, next);
-    }
-    if kind == 7 {
-        return Step::Found(Record::Show(ContextId(u32_at(bytes, at))), next);
-    }
-    read_set_payload(bytes, kind, at, next)
 }
 
 // Reads a record whose header, of 4 bytes, starts at `at`.
+#[tactic(auto, using(crate::specs::Format::Laws::record_laws))]
 fn read_record(bytes: &[u8], at: usize) -> Step
     requires { at + 4 ≤ length bytes.now }
     ensures { (reading bytes.now result ≡ record_at bytes.now at (u16_at bytes.now at) (u16_at bytes.now (at + 2)))
@@ -146,10 +117,15 @@ fn read_record(bytes: &[u8], at: usize) -> Step
     if !payload_fits(kind, length) {
         return Step::Malformed;
     }
-    read_payload(bytes, kind, start, start + length as usize)
+    let next = start + length as usize;
+    match read_payload(bytes, kind, start, next) {
+        Some(record) => Step::Found(record, next),
+        None => Step::Malformed,
+    }
 }
 
 // What stands at a place of a script.
+#[tactic(auto, using(crate::specs::Format::Laws::place_laws))]
 pub fn decode(bytes: &[u8], at: usize) -> Step
     ensures { (reading bytes.now result ≡ read_at bytes.now at) × Placed bytes.now result }
 {

@@ -1,6 +1,6 @@
 -- Some subset has two or more alternatives exactly if a config has another alternative than the first of its subset. Nothing here has to be believed.
-use Rattle.std.specs.Prelude.{◌≡◌, true, false, List, ℕ, ◌<◌, ◌≤◌, ◌+◌, get_or}
-use Rattle.std.proofs.Common.{sym, ap, ◌∙◌, arith, below_more}
+use Rattle.std.specs.Prelude.{◌≡◌, true, false, List, ℕ, ◌<◌, ◌+◌, get_or}
+use Rattle.std.proofs.Common.{sym, ap, ◌∙◌, arith}
 use Rattle.groups.specs.Config.{Config}
 use Rattle.groups.specs.Layout.{config_at, config_count}
 use Rattle.groups.specs.SetsLists.{any}
@@ -48,13 +48,3 @@ module _ {v z : List ℕ} (x : Led v Place (config_count v) z) where
       let r = some_place v (λ d. AtPlace (config_at v s.0).state (config_at v s.0).context d × (d.alternative ≡ alt_at v s.0 → ⊥)) (config_count v) s.2 in
       let one = leads_one (alike_at v Place) (kin v Place) s.0 r.0 _ _ (true_place (config_at v s.0) (config_at v r.0) r.2.0) (x.leads s.0 s.1) (x.leads r.0 r.1) in
       r.2.1 (f r.0 r.1 ∙ ap (alt_at v) (sym one) ∙ sym (f s.0 s.1)))
-
--- ---- as the code has it
-
--- the first m configs agree
-pub record Agreeing (v z : List ℕ) (m : ℕ) : Type 0 where
-  pub within : m ≤ config_count v
-  pub agree : (i : ℕ) → i < m → Agrees v z i
-
-pub agree_more : {v z : List ℕ} {m : ℕ} → Agreeing v z m → m < config_count v → Agrees v z m → Agreeing v z (m + 1)
-agree_more {v} {z} {m} a h e = record { within = omega arith; agree = λ i l. below_more (λ i. Agrees v z i) m a.agree e i l }

@@ -1,5 +1,5 @@
 -- One config more, as the code has it: values read, and the scratch after each call. Nothing here has to be believed.
-use Rattle.std.specs.Prelude.{◌≡◌, refl, List, ℕ, suc, ◌<◌, ◌≤◌, ◌+◌, length, get_or, set}
+use Rattle.std.specs.Prelude.{◌≡◌, refl, List, ℕ, suc, ◌<◌, ◌≤◌, ◌+◌, length, get_or, set, Option, Some, None}
 use Rattle.std.proofs.Common.{sym, ap, ◌∙◌, arith, add-one}
 use Rattle.words.specs.Lent.{cleared_range}
 use Rattle.words.specs.Lent.Laws.{length_cleared_range, cleared_range_inside}
@@ -10,11 +10,9 @@ use Rattle.groups.specs.Words.{configs_in}
 use Rattle.groups.specs.Listed.{configs_length}
 use Rattle.groups.specs.Chains.{last, linked, linked_length}
 use Rattle.setcheck.specs.Keys.{key_heads, key_links, key_bucket, place_of}
-use Rattle.setcheck.specs.declared.inner.keys.KeyPlace.{KeyPlace}
-use Rattle.setcheck.specs.declared.inner.keys.KeyPlace.TheVariants.{At, New}
 use Rattle.groups.specs.Groups.{firsts}
 use Rattle.groups.proofs.Parts.{firsts_most}
-use Rattle.grouping.specs.Alike.{traits_by, alike_of, alike_at, alike_kind}
+use Rattle.grouping.specs.Alike.{shared_words, shared_bucket, alike_of, alike_at, alike_kind}
 use Rattle.grouping.specs.Leads.{before}
 use Rattle.grouping.specs.Led.{leaders_at, members_at, Lent, Led, followed}
 use Rattle.grouping.specs.Led.Laws.{kin, led_none, led_new, led_old, count_new, count_old}
@@ -23,14 +21,14 @@ use Rattle.grouping.specs.declared.inner.traits.Alike.{Alike}
 
 -- what the lookup is given
 pub seeks : {v : List ℕ} {k : Alike} {n : ℕ} {z : List ℕ} {b : ℕ} {ts : List ℕ}
-    → Led v k n z × (n < most_configs) → ts ≡ traits_by k (config_at v n) → (b ≡ key_bucket ts) × (b < 256) → SoughtAlike v k n z b
-seeks p e q = record { led = p.0; few = p.1; bucket = q.0 ∙ ap key_bucket e; small = q.1 }
+    → Led v k n z × (n < most_configs) → ts ≡ shared_words k (config_at v n) → (b ≡ key_bucket ts) × (b < 256) → SoughtAlike v k n z b
+seeks {v} {k} {n} p e q = record { led = p.0; few = p.1; bucket = q.0 ∙ ap key_bucket e ∙ shared_bucket k (config_at v n); small = q.1 }
 
 -- what it found
-pub found_at : {r : KeyPlace} {l : Found} (m : ℕ) → r ≡ At m → place_of r ≡ l → l ≡ at m
+pub found_at : {r : Option ℕ} {l : Found} (m : ℕ) → r ≡ Some m → place_of r ≡ l → l ≡ at m
 found_at m e h = sym (rw e at h)
 
-pub found_none : {r : KeyPlace} {l : Found} → r ≡ New → place_of r ≡ l → l ≡ nowhere
+pub found_none : {r : Option ℕ} {l : Found} → r ≡ None → place_of r ≡ l → l ≡ nowhere
 found_none e h = sym (rw e at h)
 
 -- what is promised of the scratch u and of how many first ones more there are

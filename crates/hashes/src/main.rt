@@ -10,16 +10,14 @@ use records::agrees;
 use std::io::Read;
 use std::{fs, io};
 
+// Records that are read, at most.
+const MOST_HASHES: u64 = 10000;
+
 // How many records were read, and how many of them differ.
 #[derive(Clone, Copy)]
 struct Tally {
     hashes: u64,
     differences: u64,
-}
-
-// Reads the next record. False where it is cut short.
-fn next_record<R: Read>(file: &mut R, record: &mut [u8]) -> bool {
-    file.read_exact(record).is_ok()
 }
 
 // Reads records until one is cut short; at most 10,000.
@@ -28,22 +26,20 @@ fn compare<R: Read>(file: &mut R) -> Tally
 {
     let mut record = [0u8; 128];
     let mut list = [0u64; 14];
-    let mut hashes: u64 = 0;
     let mut differences: u64 = 0;
-    while hashes < 10000 {
-        if !next_record(file, &mut record) {
+    for hashes in 0..MOST_HASHES {
+        if file.read_exact(&mut record).is_err() {
             return Tally {
                 hashes,
                 differences,
             };
         }
-        hashes += 1;
         if !agrees(&record, &mut list) {
             differences += 1;
         }
     }
     Tally {
-        hashes,
+        hashes: MOST_HASHES,
         differences,
     }
 }

@@ -1,33 +1,25 @@
 // A record of 128 bytes: sixteen 64-bit words, little-endian. Word 0 is how many words the list has,
 // at most 14; words 1 to 14 are the list, then zeros; word 15 is the hash that the Rust gave.
-ghost use Rattle.std.specs.Prelude.{◌≡◌, ◌+◌, ◌*◌, ◌≤◌, ◌<◌, length};
-ghost use Rattle.hashes.specs.Records.{agreeing, half_at, list_in, word_at};
+ghost use Rattle.std.specs.Prelude.{◌≡◌, ◌≤◌, ◌<◌, length};
+ghost use Rattle.hashes.specs.Records.{agreeing, list_in, word_at};
 ghost use Rattle.words.specs.Hash.{hash_of};
-
-// A byte as a wider number.
-fn wide(byte: u8) -> u64
-    ensures { (result ≡ byte) × (result < 256) }
-{
-    byte as u64
-}
-
-// Four bytes as a number.
-fn half_at(bytes: &[u8], at: usize) -> u64
-    requires { at + 4 ≤ length bytes.now }
-    ensures { (result ≡ half_at bytes.now at) × (result < 4294967296) }
-{
-    wide(bytes[at])
-        + wide(bytes[at + 1]) * 256
-        + wide(bytes[at + 2]) * 65536
-        + wide(bytes[at + 3]) * 16777216
-}
 
 // Word i of a record.
 fn word_at(bytes: &[u8], i: usize) -> u64
     requires { (i < 16) × (length bytes.now ≡ 128) }
     ensures { result ≡ word_at bytes.now i }
 {
-    half_at(bytes, 8 * i) + half_at(bytes, 8 * i + 4) * 4294967296
+    let at = 8 * i;
+    u64::from_le_bytes([
+        bytes[at],
+        bytes[at + 1],
+        bytes[at + 2],
+        bytes[at + 3],
+        bytes[at + 4],
+        bytes[at + 5],
+        bytes[at + 6],
+        bytes[at + 7],
+    ])
 }
 
 // Lays the list's words out, as many as `list` has room for.
@@ -35,10 +27,8 @@ fn lay_out(bytes: &[u8], list: &mut [u64])
     requires { (length list.old ≤ 14) × (length bytes.now ≡ 128) }
     ensures { list.new ≡ list_in bytes.now (length list.old) }
 {
-    let mut i = 0;
-    while i < list.len() {
+    for i in 0..list.len() {
         list[i] = word_at(bytes, i + 1);
-        i += 1;
     }
 }
 

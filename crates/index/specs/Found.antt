@@ -1,8 +1,8 @@
 -- What a lookup answers, as the definition's answer. Nothing here has to be believed.
+use Rattle.std.specs.Prelude.{Option, Some, None}
 use Rattle.arena.specs.Store.{at, nowhere}
-use Rattle.index.specs.declared.find.Lookup.{Lookup}
-use Rattle.index.specs.declared.find.Lookup.TheVariants.{At, Nowhere}
+use Rattle.words.specs.declared.names.ContextId.{ContextId}
 
-abbrev pub found_of : Lookup → Rattle.arena.specs.Store.Found
-found_of (At c) = at c.0
-found_of Nowhere = nowhere
+abbrev pub found_of : Option ContextId → Rattle.arena.specs.Store.Found
+found_of (Some c) = at c.0
+found_of None = nowhere

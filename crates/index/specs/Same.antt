@@ -1,6 +1,6 @@
 -- Entries on the stack compared with a record, word by word: they are the same exactly if the words are. Nothing here has to be believed.
 use Rattle.std.proofs.Math.Path.{◌≡◌, sym}
-use Rattle.std.specs.Prelude.{refl, true, List, ℕ, ◌<◌, ◌+◌, eqb}
+use Rattle.std.specs.Prelude.{refl, true, Bool, ◌&&◌, List, ℕ, ◌<◌, ◌+◌, eqb}
 use Rattle.std.proofs.Common.{ap, ◌∙◌}
 use Rattle.std.proofs.Math.Bool.{false}
 use native.Mathlib.Omega.{arith}
@@ -43,6 +43,10 @@ module _ (w z : List ℕ) (from at n : ℕ) (v : Entries (state w) (parent w) fr
   pub parent_other : (j : ℕ) → j < n → (parent w (from + j) ≡ stack_parent z (at + j) → ⊥) → same (stack_node z at n) (listing (state w) (parent w) from n) ≡ false
   parent_other j h d = same_other _ _ (λ e. d (agree_at j h e).1)
 
+  pub entry_other : (j : ℕ) → j < n → (state w (from + j) ≡ stack_state z (at + j) → parent w (from + j) ≡ stack_parent z (at + j) → ⊥)
+      → same (stack_node z at n) (listing (state w) (parent w) from n) ≡ false
+  entry_other j h d = same_other _ _ (λ e. let a = agree_at j h e in d a.0 a.1)
+
 -- ---- one entry
 
 pub single_node : (z : List ℕ) (at : ℕ) → Proper z at 1 → stack_node z at 1 ≡ push (stack_state z at) (stack_parent z at) end
@@ -65,6 +69,12 @@ module _ (z : List ℕ) (at : ℕ) (p : Proper z at 1) (a b : ℕ) where
     where
       states : push b a end ≡ push (stack_state z at) (stack_parent z at) end → b ≡ stack_state z at
       states e = cc
+
+  pub single_entry : (eqb a (stack_parent z at) && eqb b (stack_state z at)) ≡ same (stack_node z at 1) (push b a end)
+  single_entry =
+      two a (stack_parent z at)
+      (λ e. ap (λ (t : Bool). t && eqb b (stack_state z at)) (eq-eqb a _ e) ∙ single_state e)
+      (λ n. ap (λ (t : Bool). t && eqb b (stack_state z at)) (ne_eqb a _ n) ∙ sym (single_parent_other n))
 
 -- ---- a record by its kind
 

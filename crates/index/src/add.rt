@@ -1,14 +1,15 @@
 // A context put in front of its bucket's chain.
-ghost use Rattle.std.specs.Prelude.{◌≡◌, ◌<◌, length};
+ghost use Rattle.std.specs.Prelude.{◌≡◌, ◌<◌};
 ghost use Rattle.words.specs.Lent.{cleared_range};
 ghost use Rattle.index.specs.Writes.{put_index};
-ghost use Rattle.layout.specs.Layout.{most_contexts, scratch_words};
+ghost use Rattle.layout.specs.Layout.{most_contexts};
 
 use crate::hash::bucket;
 use crate::places::{BUCKETS, HEADS, HIGHS, LINKS, LOWS};
+use layout::ScratchWords;
 
-pub fn add_to_index(scratch: &mut [u32], context: usize, hash: u64)
-    requires { (length scratch.old ≡ scratch_words) × (context < most_contexts) }
+pub fn add_to_index(scratch: &mut ScratchWords, context: usize, hash: u64)
+    requires { context < most_contexts }
     ensures { scratch.new ≡ put_index scratch.old context hash }
 {
     let chain = bucket(hash);
@@ -20,8 +21,7 @@ pub fn add_to_index(scratch: &mut [u32], context: usize, hash: u64)
 }
 
 // Makes every chain empty.
-pub fn clear_heads(scratch: &mut [u32])
-    requires { length scratch.old ≡ scratch_words }
+pub fn clear_heads(scratch: &mut ScratchWords)
     ensures { scratch.new ≡ cleared_range scratch.old 0 512 }
 {
     words::clear_range(scratch, HEADS, BUCKETS);

@@ -10,7 +10,7 @@ mod reads;
 mod stack;
 
 pub use add::{add_to_index, clear_heads};
-pub use find::{Lookup, find_interned, same_record};
+pub use find::{find_interned, same_record};
 pub use hash::entries_hash;
-pub use reads::{stack_parent, stack_state};
+pub use reads::stack_entry;
 pub use stack::{load_entries, put_entry};

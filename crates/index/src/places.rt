@@ -1,4 +1,5 @@
 // Where the index and the entry stack stand in the scratch's 16,384 words.
+// Kept by no heap: tables and chains by index in lent words, where Rattle has Vec and maps.
 
 pub const HEADS: usize = 0;
 

@@ -1,12 +1,11 @@
 -- What a call leaves, from what its parts leave: a state that is not placed, and a context that is made or has no room. Nothing here has to be believed.
-use Rattle.std.specs.Prelude.{◌≡◌, List, ℕ, ◌<◌, ◌+◌, ◌-◌, ◌*◌, replicate}
+use Rattle.std.specs.Prelude.{◌≡◌, List, ℕ, ◌<◌, ◌+◌, ◌-◌, ◌*◌, ◌≢◌, replicate, Result, Ok, Err}
 use Rattle.std.proofs.Common.{sym, ap, ◌∙◌, arith}
 use Rattle.std.proofs.Math.ListN.{length}
 use borrow.Author.Tests.{eq-eqb, ne_eqb, lt-ltb, le-ltb}
 use Rattle.arena.specs.Forest.{none, over}
 use Rattle.words.specs.Names.{empty_mark}
-use Rattle.words.specs.Compact.{compacted}
-use Rattle.words.specs.declared.names.Compacted.TheVariants.{Mark, State, OutOfRange}
+use Rattle.words.specs.Compact.{compacted, compact_mark}
 use Rattle.words.specs.declared.names.CompactState.{CompactState}
 use Rattle.words.specs.Compact.Laws.{state_of_compacted, mark_of_compacted, out_of_compacted}
 use Rattle.arena.specs.Store.{end, push, Store, tree}
@@ -25,18 +24,15 @@ use Rattle.index.specs.Same.{single_node}
 use Rattle.words.specs.Refusals.{number}
 use Rattle.words.specs.declared.refusals.Refusal.{Refusal}
 use Rattle.store.specs.Admit.{Admits, cleared}
-use Rattle.store.specs.declared.inner.admit.Admitted.{Admitted}
-use Rattle.store.specs.declared.inner.admit.Admitted.TheVariants.{Ready as ready, Refused}
+use Rattle.interning.specs.declared.numbered.Numbered.{Numbered}
 use Rattle.store.specs.Calls.{refused, context, Left, zeros, leaves, leaves_after}
 use Rattle.store.specs.Nested.{grown}
 use Rattle.interning.specs.Live.{Live, Pushed, GrewTo, live_count, ready_live}
 use Rattle.interning.specs.SingletonCall.Laws.{if_state, placed_single}
 use Rattle.interning.proofs.SingletonNested.{singleton_nested}
 use Rattle.interning.specs.SingletonCall.{singleton_call}
-use Rattle.interning.specs.Interned.{More, Interns, answered}
+use Rattle.interning.specs.Interned.{More, Interns}
 use Rattle.interning.specs.Replies.{numbered}
-use Rattle.interning.specs.declared.inner.intern.Interned.{Interned}
-use Rattle.interning.specs.declared.inner.intern.Interned.TheVariants.{Found, Made, NoRoom}
 
 -- ---- a context that is made, or no room
 
@@ -55,18 +51,18 @@ module _ (w : List ℕ) (x : ℕ × Store) where
 -- ---- the state at the border
 
 module _ (w : List ℕ) (r : ℕ) (go : Left) where
-  pub mark_answered : compacted r ≡ Mark → if_state w r go ≡ leaves (context 0) w zeros
+  pub mark_answered : (c : CompactState) → compacted r ≡ Ok c → c.0 ≡ compact_mark → if_state w r go ≡ leaves (context 0) w zeros
   unfolding if_state
-  mark_answered e = rw (eq-eqb r empty_mark (mark_of_compacted r e), if_state)
+  mark_answered c e m = rw (eq-eqb r empty_mark (mark_of_compacted r c e m), if_state)
 
-  pub out_of_range : compacted r ≡ OutOfRange → if_state w r go ≡ leaves (refused 5) w zeros
+  pub out_of_range : (f : Refusal) → compacted r ≡ Err f → if_state w r go ≡ leaves (refused 5) w zeros
   unfolding if_state
-  out_of_range e = let o = out_of_compacted r e in rw (ne_eqb r empty_mark o.0, if_state, le-ltb r stop o.1)
+  out_of_range f e = let o = out_of_compacted r f e in rw (ne_eqb r empty_mark o.0, if_state, le-ltb r stop o.1)
 
-  pub placed : (c : CompactState) → compacted r ≡ State c → (c.0 ≡ r) × (r < stop) × (if_state w r go ≡ go)
+  pub placed : (c : CompactState) → compacted r ≡ Ok c → (c.0 ≢ compact_mark) → (c.0 ≡ r) × (r < stop) × (if_state w r go ≡ go)
   unfolding if_state
-  placed c e =
-      let o = state_of_compacted r c e in
+  placed c e n =
+      let o = state_of_compacted r c e n in
       (o.0, o.1, rw (ne_eqb r empty_mark (λ q. omega arith), if_state, lt-ltb r stop o.1))
 
 -- ---- one entry on the stack
@@ -117,25 +113,26 @@ grown_left w z y x c k w' u e g more =
     let o : store_of w' ≡ x.1 = g.store ∙ ap (λ (y : ℕ × Store). y.1) (sym e) in
     grown_fits w x w' c k (rw (← o) g.live.good.fits) (g.number ∙ ap (λ (y : ℕ × Store). y.0) (sym e)) (g.live.words ∙ ap words_of o) (more ∙ ap length o)
 
-pub interned_left : (w z : List ℕ) (place n : ℕ) (x : ℕ × Store) (r : Interned) (w' u : List ℕ) → x ≡ intern (store_of w) (stack_node z place n)
-    → Interns w z place n r w' u → numbered (answered r 0) w' zeros ≡ grown w x
-interned_left w z place n x (Found c) w' u e g = grown_left w z _ x c.0 0 w' u e g.0 g.1
-interned_left w z place n x (Made c) w' u e g = grown_left w z _ x c.0 1 w' u e g.0 g.1
-interned_left w z place n x NoRoom w' u e g =
-    ap (λ (y : List ℕ). leaves (refused 6) y zeros) g.1 ∙ grown_full w x (λ f. g.0 (rw e at f))
+pub interned_left : (w z : List ℕ) (place n : ℕ) (x : ℕ × Store) (r : Result Numbered Refusal) (w' u : List ℕ)
+    → x ≡ intern (store_of w) (stack_node z place n) → Interns w z place n r w' u → numbered r w' zeros ≡ grown w x
+interned_left w z place n x (Ok d) w' u e g = grown_left w z _ x d.context.0 d.made w' u e g.0 g.1
+interned_left w z place n x (Err f) w' u e g =
+    ap (λ (h : Refusal). leaves (refused (number h)) w' zeros) g.0
+    ∙ ap (λ (y : List ℕ). leaves (refused 6) y zeros) g.2
+    ∙ grown_full w x (λ f. g.1 (rw e at f))
 
-pub interned_length : (w z : List ℕ) (place n : ℕ) (r : Interned) (w' u : List ℕ) → length z ≡ scratch_words → Interns w z place n r w' u → length u ≡ scratch_words
-interned_length w z place n (Found c) w' u l g = g.0.live.index.sized
-interned_length w z place n (Made c) w' u l g = g.0.live.index.sized
-interned_length w z place n NoRoom w' u l g = ap length g.2 ∙ l
+pub interned_length : (w z : List ℕ) (place n : ℕ) (r : Result Numbered Refusal) (w' u : List ℕ) → length z ≡ scratch_words → Interns w z place n r w' u
+    → length u ≡ scratch_words
+interned_length w z place n (Ok d) w' u l g = g.0.live.index.sized
+interned_length w z place n (Err f) w' u l g = ap length g.3 ∙ l
 
 -- ---- the singleton call, after its first checks
 
-module _ (w z u : List ℕ) (p r : ℕ) (a : Admitted) (v : Admits w z p a u) where
-  pub singleton_refused : (f : Refusal) → a ≡ Refused f → leaves (refused (number f)) w u ≡ singleton_call w z p r
+module _ (w z u : List ℕ) (p r : ℕ) (a : Result Unit Refusal) (v : Admits w z p a u) where
+  pub singleton_refused : (f : Refusal) → a ≡ Err f → leaves (refused (number f)) w u ≡ singleton_call w z p r
   singleton_refused f e = sym (singleton_nested w z p r ∙ (rw e at v) (if_state w r (placed_single w p r)))
 
-  module _ (e : a ≡ ready) where
+  module _ (e : a ≡ Ok tt) where
     pub singleton_ready : Live w u × (p < count w)
     singleton_ready = let o = rw e at v in (ready_live w u o.0, o.1)
 
@@ -147,13 +144,13 @@ module _ (w z u : List ℕ) (p r : ℕ) (a : Admitted) (v : Admits w z p a u) wh
       zero_again : y ≡ zeros
       zero_again = ey ∙ cleared u singleton_ready.0.index.sized
 
-      pub singleton_mark : compacted r ≡ Mark → leaves (context 0) w y ≡ singleton_call w z p r
-      singleton_mark m = ap (leaves (context 0) w) zero_again ∙ sym (goes ∙ mark_answered w r (placed_single w p r) m)
+      pub singleton_mark : (c : CompactState) → compacted r ≡ Ok c → c.0 ≡ compact_mark → leaves (context 0) w y ≡ singleton_call w z p r
+      singleton_mark c m k = ap (leaves (context 0) w) zero_again ∙ sym (goes ∙ mark_answered w r (placed_single w p r) c m k)
 
-      pub singleton_out : compacted r ≡ OutOfRange → leaves (refused 5) w y ≡ singleton_call w z p r
-      singleton_out m = ap (leaves (refused 5) w) zero_again ∙ sym (goes ∙ out_of_range w r (placed_single w p r) m)
+      pub singleton_out : (f : Refusal) → compacted r ≡ Err f → leaves (refused 5) w y ≡ singleton_call w z p r
+      singleton_out f m = ap (leaves (refused 5) w) zero_again ∙ sym (goes ∙ out_of_range w r (placed_single w p r) f m)
 
-    pub singleton_placed : (c : CompactState) → compacted r ≡ State c → (x : Left) → x ≡ placed_single w p c.0 → x ≡ singleton_call w z p r
-    singleton_placed c m x e =
-        let o = placed w r (placed_single w p r) c m in
+    pub singleton_placed : (c : CompactState) → compacted r ≡ Ok c → (c.0 ≢ compact_mark) → (x : Left) → x ≡ placed_single w p c.0 → x ≡ singleton_call w z p r
+    singleton_placed c m n x e =
+        let o = placed w r (placed_single w p r) c m n in
         e ∙ ap (placed_single w p) o.0 ∙ sym (goes ∙ o.2)

@@ -41,8 +41,9 @@ use Rattle.store.proofs.Told.{number_tells}
 use Rattle.interning.specs.SingletonCall.{single_s, singleton_checks, singleton_call}
 use Rattle.interning.proofs.SingletonNested.{single_mark, single_state}
 use Rattle.interning.specs.Replies.{numbered}
-use Rattle.interning.specs.declared.single.Numbered.{Numbered}
-use Rattle.interning.specs.declared.single.Numbered.TheVariants.{Number, Refused}
+use Rattle.std.specs.Prelude.{Result, Ok, Err}
+use Rattle.words.specs.declared.refusals.Refusal.{Refusal}
+use Rattle.interning.specs.declared.numbered.Numbered.{Numbered}
 
 -- ---- what an accepted call leaves that has made x: its store, and sound words that know its number
 
@@ -255,19 +256,20 @@ module _ (w z : List ℕ) (p r n : ℕ) where
 -- ---- any two outcomes that satisfy a contract for the same input are equal: the answer, case and value, and every word
 
 module _ (u v y z : List ℕ) where
-  numbered_tells : (a b : Numbered) → numbered a u y ≡ numbered b v z → a ≡ b
-  numbered_tells (Number c k) (Number d j) e =
-      let n : c.0 ≡ d.0 = same_context c.0 d.0 (ap (λ (o : Left). o.reply) e) in
-      ap (λ (i : ℕ). Number (record { 0 = i }) k) n ∙ ap (Number d) (ap (λ (o : Left). o.made) e)
-  numbered_tells (Number c k) (Refused g) e = absurd (not_context (number g) c.0 (ap (λ (o : Left). o.reply) e))
-  numbered_tells (Refused f) (Number d j) e = absurd (not_context (number f) d.0 (sym (ap (λ (o : Left). o.reply) e)))
-  numbered_tells (Refused f) (Refused g) e = ap Refused (number_tells f g (ap (λ (o : Left). o.reply) e))
+  numbered_tells : (a b : Result Numbered Refusal) → numbered a u y ≡ numbered b v z → a ≡ b
+  numbered_tells (Ok c) (Ok d) e =
+      let n : c.context.0 ≡ d.context.0 = same_context c.context.0 d.context.0 (ap (λ (o : Left). o.reply) e) in
+      let k : c.made ≡ d.made = ap (λ (o : Left). o.made) e in
+      ap (λ (i : ℕ). Ok (record { context = record { 0 = i }; made = c.made })) n ∙ ap (λ (j : ℕ). Ok (record d { made = j })) k
+  numbered_tells (Ok c) (Err g) e = absurd (not_context (number g) c.context.0 (ap (λ (o : Left). o.reply) e))
+  numbered_tells (Err f) (Ok d) e = absurd (not_context (number f) d.context.0 (sym (ap (λ (o : Left). o.reply) e)))
+  numbered_tells (Err f) (Err g) e = ap Err (number_tells f g (ap (λ (o : Left). o.reply) e))
 
-  numbered_words : (a : Numbered) → ((numbered a u y).store ≡ u) × ((numbered a u y).scratch ≡ y)
-  numbered_words (Number c k) = (refl, refl)
-  numbered_words (Refused f) = (refl, refl)
+  numbered_words : (a : Result Numbered Refusal) → ((numbered a u y).store ≡ u) × ((numbered a u y).scratch ≡ y)
+  numbered_words (Ok d) = (refl, refl)
+  numbered_words (Err f) = (refl, refl)
 
-pub singleton_determined : (w z : List ℕ) (p r : ℕ) (a b : Numbered) (u v y x : List ℕ)
+pub singleton_determined : (w z : List ℕ) (p r : ℕ) (a b : Result Numbered Refusal) (u v y x : List ℕ)
     → numbered a u y ≡ singleton_call w z p r → numbered b v x ≡ singleton_call w z p r → (a ≡ b) × (u ≡ v) × (y ≡ x)
 singleton_determined w z p r a b u v y x i j =
     let e = determined (numbered a u y) (numbered b v x) (singleton_call w z p r) i j in

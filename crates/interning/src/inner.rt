@@ -1,5 +1,3 @@
 // What crates above need beside the public face: no part of it.
 pub mod intern;
 mod write;
-
-pub use crate::single::answer;

@@ -2,6 +2,8 @@
 #![tactic(auto)]
 
 pub mod inner;
+mod numbered;
 mod single;
 
-pub use single::{Numbered, singleton};
+pub use numbered::Numbered;
+pub use single::singleton;

@@ -6,6 +6,7 @@ pub mod Decode
 pub mod Sound
 pub mod Encode
 pub mod Ceilings
+pub mod Records
 pub use Rattle.arena.specs.Kinds
 pub use Rattle.arena.specs.Merge
 pub use Rattle.arena.specs.Place

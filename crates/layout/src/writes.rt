@@ -1,13 +1,15 @@
 // Words of a store written: a record, a pool entry, the counts.
-ghost use Rattle.std.specs.Prelude.{◌≡◌, ◌<◌, ◌≤◌, length};
+ghost use Rattle.std.specs.Prelude.{◌≡◌, ◌<◌, ◌≤◌};
 ghost use Rattle.layout.specs.Encode.{put_counts, put_pool, put_record};
-ghost use Rattle.layout.specs.Layout.{most_contexts, most_entries, store_words};
+ghost use Rattle.layout.specs.Layout.{most_contexts, most_entries};
 
-use crate::places::{PARENTS, RECORDS, STATES};
+use crate::entry::Entry;
+use crate::places::{PARENTS, RECORDS, STATES, StoreWords};
 
+// Kept as numbers: these are words of the C interface, written as they will stand there.
 // Writes the three words of a record.
-pub fn put_record(store: &mut [u32], context: usize, kind: u32, first: u32, second: u32)
-    requires { (length store.old ≡ store_words) × (context < most_contexts) }
+pub fn put_record(store: &mut StoreWords, context: usize, kind: u32, first: u32, second: u32)
+    requires { context < most_contexts }
     ensures { store.new ≡ put_record store.old context kind first second }
 {
     store[RECORDS + 3 * context] = kind;
@@ -16,17 +18,17 @@ pub fn put_record(store: &mut [u32], context: usize, kind: u32, first: u32, seco
 }
 
 // Writes one pool entry.
-pub fn put_pool(store: &mut [u32], place: usize, parent: u32, state: u32)
-    requires { (length store.old ≡ store_words) × (place < most_entries) }
-    ensures { store.new ≡ put_pool store.old place parent state }
+pub fn put_pool(store: &mut StoreWords, place: usize, entry: Entry)
+    requires { place < most_entries }
+    ensures { store.new ≡ put_pool store.old place entry.parent.0 entry.state.0 }
 {
-    store[PARENTS + place] = parent;
-    store[STATES + place] = state;
+    store[PARENTS + place] = entry.parent.0;
+    store[STATES + place] = entry.state.0;
 }
 
 // Writes how many contexts there are and how many pool entries are in use.
-pub fn put_counts(store: &mut [u32], count: usize, used: usize)
-    requires { (length store.old ≡ store_words) × (count ≤ most_contexts) × (used ≤ most_entries) }
+pub fn put_counts(store: &mut StoreWords, count: usize, used: usize)
+    requires { (count ≤ most_contexts) × (used ≤ most_entries) }
     ensures { store.new ≡ put_counts store.old count used }
 {
     store[0] = count as u32;

@@ -4,6 +4,7 @@ pub mod Decimal
 pub mod Lines
 pub mod Laid
 pub mod Entries
+pub mod Spread
 pub mod Determined
 pub use Rattle.groups.specs.Answers
 pub use Rattle.groups.specs.Calls

@@ -2,11 +2,9 @@
 ghost use Rattle.lines.specs.Laid.{Wrote};
 ghost use Rattle.lines.specs.Lines.{end_line};
 
-use crate::inner::numbers::lay_numbers;
+use crate::inner::digits::LINE_BYTES;
+use crate::inner::numbers::lay_line;
 use layout::STORE_WORDS;
-
-// Bytes of the buffer in which a reply is laid: the longest, of 2,048 entries, has room.
-pub const LINE_BYTES: usize = 40000;
 
 // Lays the end line of a script that leaves this store.
 pub fn lay_end(out: &mut [u8; LINE_BYTES], store: &[u32; STORE_WORDS]) -> usize
@@ -14,5 +12,5 @@ pub fn lay_end(out: &mut [u8; LINE_BYTES], store: &[u32; STORE_WORDS]) -> usize
 {
     let contexts = layout::count_of(store);
     let entries = layout::used_of(store);
-    lay_numbers(out, b'T', contexts, entries)
+    lay_line(out, b'T', &[contexts, entries])
 }

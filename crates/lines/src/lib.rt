@@ -4,4 +4,5 @@
 mod ends;
 pub mod inner;
 
-pub use ends::{LINE_BYTES, lay_end};
+pub use ends::lay_end;
+pub use inner::digits::LINE_BYTES;

@@ -21,8 +21,7 @@ use Rattle.words.specs.declared.refusals.Refusal.{Refusal}
 use Rattle.cache.specs.Cache.{Asked, Remembered, Counts, kept_of, merges_counted}
 use Rattle.cache.specs.Frames.{counted_sound, counted_kept, counted_merges}
 use Rattle.cache.specs.Recalled.{recalled}
-use Rattle.cache.specs.declared.lookup.Recall.{Recall}
-use Rattle.cache.specs.declared.lookup.Recall.TheVariants.{As, Unknown}
+use Rattle.std.specs.Prelude.{Option, Some, None}
 use Rattle.merging.specs.Standing.{state_of, walked, Mergeable, Apart, Reached, Stuck, Swallows}
 
 -- the index and the stack are as they were
@@ -56,11 +55,11 @@ module _ {w z : List ℕ} {a b top : ℕ} (v : Mergeable w z a b top) where
   pub equal_sides : (m : Bool) → a ≡ b → Reached z top (counted m (state_of w z) a b) a w z
   equal_sides m e = stayed _ a (merge_equal m (state_of w z) a b v.good v.left v.right e)
 
-  module _ (differ : a ≡ b → ⊥) (m : Bool) (r : Recall) (looked : recalled r ≡ recall m (min a b) (max a b) (kept_of z)) where
-    pub hit : (c : ContextId) → r ≡ As c → Reached z top (counted m (state_of w z) a b) c.0 w z
+  module _ (differ : a ≡ b → ⊥) (m : Bool) (r : Option ContextId) (looked : recalled r ≡ recall m (min a b) (max a b) (kept_of z)) where
+    pub hit : (c : ContextId) → r ≡ Some c → Reached z top (counted m (state_of w z) a b) c.0 w z
     hit c e = stayed _ c.0 (merge_hit m (state_of w z) a b v.good v.left v.right differ c.0 (sym looked ∙ ap recalled e))
 
-    module _ (e : r ≡ Unknown) where
+    module _ (e : r ≡ None) where
       missed : recall m (min a b) (max a b) (kept_of z) ≡ nowhere
       missed = sym looked ∙ ap recalled e
 

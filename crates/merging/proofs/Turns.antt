@@ -25,13 +25,15 @@ use Rattle.words.specs.declared.refusals.Refusal.{Refusal}
 use Rattle.entries.specs.EntriesFrom.{rest}
 use Rattle.entries.specs.Reading.{IsEntry}
 use Rattle.entries.specs.Rest.{Finishing, Extends, whole}
-use Rattle.entries.specs.declared.pairs.Entry.{Entry}
+use Rattle.layout.specs.declared.entry.Entry.{Entry}
 use Rattle.entries.specs.Laying.{ahead}
 use Rattle.merging.specs.Ends.{ends, ends_grew}
 use Rattle.merging.specs.Standing.{state_of, walked, Mergeable, Apart, Reached, Stuck, Ended, stuck_from}
 use Rattle.merging.proofs.Walking.{Sorted, Walking, walking_start, take_left, take_both, no_inner, right_done, extended}
 use Rattle.merging.proofs.Sides.{sorted_of, head_before, head_le, size_ends, head_ends, later_below, later_known, later_node}
-use Rattle.interning.specs.declared.inner.intern.Interned.{Interned}
+use Rattle.std.specs.Prelude.{Result}
+use Rattle.words.specs.declared.refusals.Refusal.{Refusal}
+use Rattle.interning.specs.declared.numbered.Numbered.{Numbered}
 
 -- a and b of w₀ are merged: i and j entries are taken, n are on the stack
 abbrev pub Go : Bool → List ℕ → List ℕ → ℕ → ℕ → ℕ → List ℕ → List ℕ → ℕ → ℕ → ℕ → Type 0
@@ -112,6 +114,16 @@ module _ {w₀ z₀ : List ℕ} {a b top : ℕ} (f : Apart w₀ z₀ a b top) wh
     pub right_there : b < length (store_of w)
     right_there = later_below w₀ b v₀.right g.live g.grew
 
+    -- the entries at hand are those of the sides where the loop stands; p and q are the sides' lengths
+    pub heads_at : {l r : Entry} {p q : ℕ} → p ≡ size A → q ≡ size B → i < p → j < q → IsEntry (node_at (store_of w) a) i l → IsEntry (node_at (store_of w) b) j r
+        → Heads w₀ a b i j l r
+    heads_at ep eq hp hq l r = record {
+      left_more = omega (arith, ep, hp);
+      right_more = omega (arith, eq, hq);
+      left = rw left_is at l;
+      right = rw (later_node w₀ b v₀.right g.live g.grew) at r;
+    }
+
     -- the right side is at its end: the rest of the left follows
     module _ (hi : i ≤ size A) (hj : size B ≤ j) (lj : j ≤ size B) where
       pub rest_left : Finishing w z a i top n
@@ -124,7 +136,7 @@ module _ {w₀ z₀ : List ℕ} {a b top : ℕ} (f : Apart w₀ z₀ a b top) wh
         room = rw left_is (omega (arith, fitting, g.few));
       }
 
-      pub left_ended : (k : ℕ) → More w₀ k w → (r : Interned) (w' u : List ℕ) → Extends w z top (whole w z a i top n) r w' u
+      pub left_ended : (k : ℕ) → More w₀ k w → (r : Result Numbered Refusal) (w' u : List ℕ) → Extends w z top (whole w z a i top n) r w' u
           → Ended w₀ z₀ top (walked m (state_of w₀ z₀) a b) (answered r k) w' u
       left_ended k more r w' u x =
           rw (right_done sa sb g hj, ← left_is)

@@ -30,8 +30,9 @@ use Rattle.entries.specs.StackEntry.{SameStack, Under, under_le, moved_entries, 
 use Rattle.entries.specs.Laying.{Stacks, ahead, Next, Laid, lay}
 use Rattle.entries.specs.Rest.{Extended, Extends}
 use Rattle.merging.specs.Standing.{state_of, SameCache, state_moved, Reached, Ended}
-use Rattle.interning.specs.declared.inner.intern.Interned.{Interned}
-use Rattle.interning.specs.declared.inner.intern.Interned.TheVariants.{Found, Made, NoRoom}
+use Rattle.std.specs.Prelude.{Result, Ok, Err}
+use Rattle.words.specs.declared.refusals.Refusal.{Refusal}
+use Rattle.interning.specs.declared.numbered.Numbered.{Numbered}
 
 -- the entries of a record of a sound store
 pub record Sorted (s : Store) (n : Node) : Type 0 where
@@ -258,17 +259,16 @@ module _ (w₀ z₀ w z : List ℕ) (top k : ℕ) (x : Node) (grew : Grew (store
         between = λ i a b. g.same i (omega arith) b ∙ between i a b;
       }
 
-  pub extended : (r : Interned) (w' u : List ℕ) → Extends w z top (intern (store_of w) x) r w' u
+  pub extended : (r : Result Numbered Refusal) (w' u : List ℕ) → Extends w z top (intern (store_of w) x) r w' u
       → Ended w₀ z₀ top (interned x (state_of w z)) (answered r k) w' u
   unfolding interned
-  extended (Found d) w' u g = (reached d.0 w' u g.0, omega (arith, more, g.1))
-  extended (Made d) w' u g = (reached d.0 w' u g.0, omega (arith, more, g.1))
-  extended NoRoom w' u g = (
-    rw (fits_false (intern (store_of w) x).1 g.0, interned),
+  extended (Ok d) w' u g = (reached d.context.0 w' u g.0, omega (arith, more, g.1))
+  extended (Err f) w' u g = (
+    rw (g.0, fits_false (intern (store_of w) x).1 g.1, interned),
     record {
-      grew = rw g.1 grew;
-      good = rw g.1 l.good;
-      words = rw g.1 l.words;
-      sized = g.2;
+      grew = rw g.2 grew;
+      good = rw g.2 l.good;
+      words = rw g.2 l.words;
+      sized = g.3;
     },
   )

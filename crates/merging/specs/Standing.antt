@@ -18,8 +18,9 @@ use Rattle.cache.specs.Frames.{kept_same}
 use Rattle.entries.specs.StackEntry.{SameStack}
 use Rattle.merging.specs.Ends.{ends}
 use Rattle.words.specs.Refusals.{number}
-use Rattle.interning.specs.declared.single.Numbered.{Numbered}
-use Rattle.interning.specs.declared.single.Numbered.TheVariants.{Number, Refused}
+use Rattle.std.specs.Prelude.{Result, Ok, Err}
+use Rattle.words.specs.declared.refusals.Refusal.{Refusal}
+use Rattle.interning.specs.declared.numbered.Numbered.{Numbered}
 
 -- the store that the words w hold, the results that the scratch z keeps, and the merges that it counts
 abbrev pub state_of : List ℕ → List ℕ → State
@@ -58,9 +59,9 @@ pub record Stuck (w v u : List ℕ) : Type 0 where
   pub sized : length u ≡ scratch_words
 
 -- what a merge with the outcome o leaves, k contexts more than before
-abbrev pub Ended : List ℕ → List ℕ → ℕ → Outcome ℕ → Numbered → List ℕ → List ℕ → Type 0
-Ended w z top o (Number c k) v u = Reached z top o c.0 v u × More w k v
-Ended w z top o (Refused f) v u = (o ≡ refused (number f)) × Stuck w v u
+abbrev pub Ended : List ℕ → List ℕ → ℕ → Outcome ℕ → Result Numbered Refusal → List ℕ → List ℕ → Type 0
+Ended w z top o (Ok d) v u = Reached z top o d.context.0 v u × More w d.made v
+Ended w z top o (Err f) v u = (o ≡ refused (number f)) × Stuck w v u
 
 -- seen from an earlier place
 pub stuck_from : (w₀ w v u : List ℕ) → Grew (store_of w₀) (store_of w) → Stuck w v u → Stuck w₀ v u
@@ -92,7 +93,7 @@ unfolding merges_counted
 state_moved w z u s v = rw (kept_same z u s.inside (s.after 16336 (omega arith)) v, s.after 16337 (omega arith))
 
 -- whatever the answer, lengths are kept
-pub ended_lengths : {w z : List ℕ} {a b top : ℕ} → Mergeable w z a b top → (o : Outcome ℕ) (r : Numbered) (v u : List ℕ) → Ended w z top o r v u
+pub ended_lengths : {w z : List ℕ} {a b top : ℕ} → Mergeable w z a b top → (o : Outcome ℕ) (r : Result Numbered Refusal) (v u : List ℕ) → Ended w z top o r v u
     → (length v ≡ store_words) × (length u ≡ scratch_words)
-ended_lengths m o (Number c k) v u g = (live_length g.0.live, g.0.live.index.sized)
-ended_lengths m o (Refused f) v u g = (ap length g.1.words ∙ words_length (store_of v), g.1.sized)
+ended_lengths m o (Ok d) v u g = (live_length g.0.live, g.0.live.index.sized)
+ended_lengths m o (Err f) v u g = (ap length g.1.words ∙ words_length (store_of v), g.1.sized)

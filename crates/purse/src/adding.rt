@@ -5,7 +5,7 @@ ghost use Rattle.answers.specs.SetAnswers.{set_number_of};
 ghost use Rattle.purse.specs.Doors.{OpensSet, OpensSetCounted, by_full_context};
 ghost use Rattle.setcheck.specs.Config.{config};
 
-use answers::{CountedAnswer, added_answer, settled_number};
+use answers::{CountedAnswer, added_answer, done_number};
 use setcheck::AtnConfig;
 use words::{Alternative, ContextId, SemanticId};
 
@@ -14,7 +14,7 @@ use words::{Alternative, ContextId, SemanticId};
 pub extern "C" fn purse_fresh_set(set: &mut [u32], mode: u32) -> u32
     ensures { (result ≡ set_number_of (fresh_set_call set.old (by_full_context mode)).0) × (set.new ≡ (fresh_set_call set.old (by_full_context mode)).1) }
 {
-    settled_number(configs::fresh_set(set, mode == 0))
+    done_number(configs::fresh_set(set, mode == 0))
 }
 
 // Adds a config, given by its six words in their order.
@@ -49,5 +49,5 @@ pub extern "C" fn purse_add(
 pub extern "C" fn purse_close(store: &[u32], set: &mut [u32], scratch: &mut [u32]) -> u32
     ensures { OpensSet set_number_of (close_call store.now set.old scratch.old) result store.now set.new scratch.new }
 {
-    settled_number(configs::close(store, set, scratch))
+    done_number(configs::close(store, set, scratch))
 }

@@ -3,7 +3,7 @@ ghost use Rattle.queries.specs.Queries.{entry_count, entry_parent, entry_state, 
 ghost use Rattle.answers.specs.Answers.{answer_of, entry_of};
 ghost use Rattle.purse.specs.Doors.{Opens};
 
-use answers::{Answer, EntryAnswer, count_answer, parent_answer, state_answer, truth_answer};
+use answers::{Answer, EntryAnswer, count_answer, entry_answer, truth_answer};
 use words::ContextId;
 
 // How many entries has a context?
@@ -40,7 +40,7 @@ pub extern "C" fn purse_return_state(
 ) -> EntryAnswer
     ensures { Opens entry_of (query_call (entry_state index) store.now scratch.old context) result store.now scratch.new }
 {
-    state_answer(queries::return_state(store, scratch, ContextId(context), index))
+    entry_answer(queries::return_state(store, scratch, ContextId(context), index))
 }
 
 // What is the parent of a context's entry at an index?
@@ -53,5 +53,5 @@ pub extern "C" fn purse_parent(
 ) -> EntryAnswer
     ensures { Opens entry_of (query_call (entry_parent index) store.now scratch.old context) result store.now scratch.new }
 {
-    parent_answer(queries::parent(store, scratch, ContextId(context), index))
+    entry_answer(queries::parent(store, scratch, ContextId(context), index))
 }

@@ -9,8 +9,8 @@ ghost use Rattle.answers.specs.VerdictAnswers.{alt_answer_of, verdict_answer_of,
 ghost use Rattle.purse.specs.Doors.{OpensVerdict};
 
 use answers::{
-    Answer, EntryAnswer, FiguresAnswer, ReasonAnswer, alt_answer, decided_answer, figures_answer,
-    reason_answer, written_number,
+    Answer, EntryAnswer, FiguresAnswer, ReasonAnswer, done_number, entry_answer, figures_answer,
+    reason_answer, truth_answer,
 };
 
 // Which alternative have all configs?
@@ -18,7 +18,7 @@ use answers::{
 pub extern "C" fn purse_unique_alt(store: &[u32], set: &[u32], scratch: &mut [u32]) -> EntryAnswer
     ensures { OpensVerdict alt_answer_of (unique_alt_call store.now set.now scratch.old) result scratch.new [] }
 {
-    alt_answer(verdicts::unique_alt(store, set, scratch))
+    entry_answer(verdicts::unique_alt(store, set, scratch))
 }
 
 // Which alternative is the smallest of every subset?
@@ -30,7 +30,7 @@ pub extern "C" fn purse_single_viable_alt(
 ) -> EntryAnswer
     ensures { OpensVerdict alt_answer_of (single_viable_alt_call store.now set.now scratch.old) result scratch.new [] }
 {
-    alt_answer(verdicts::single_viable_alt(store, set, scratch))
+    entry_answer(verdicts::single_viable_alt(store, set, scratch))
 }
 
 // Has every subset two or more alternatives?
@@ -42,7 +42,7 @@ pub extern "C" fn purse_all_subsets_conflict(
 ) -> Answer
     ensures { OpensVerdict verdict_answer_of (all_subsets_conflict_call store.now set.now scratch.old) result scratch.new [] }
 {
-    decided_answer(verdicts::all_subsets_conflict(store, set, scratch))
+    truth_answer(verdicts::all_subsets_conflict(store, set, scratch))
 }
 
 // Have all subsets the same alternatives?
@@ -50,7 +50,7 @@ pub extern "C" fn purse_all_subsets_conflict(
 pub extern "C" fn purse_all_subsets_equal(store: &[u32], set: &[u32], scratch: &mut [u32]) -> Answer
     ensures { OpensVerdict verdict_answer_of (all_subsets_equal_call store.now set.now scratch.old) result scratch.new [] }
 {
-    decided_answer(verdicts::all_subsets_equal(store, set, scratch))
+    truth_answer(verdicts::all_subsets_equal(store, set, scratch))
 }
 
 // What is the verdict on the set, with these stop states?
@@ -63,7 +63,7 @@ pub extern "C" fn purse_has_sll_conflict_terminating_prediction(
 ) -> Answer
     ensures { OpensVerdict verdict_answer_of (verdict_call store.now set.now scratch.old stops.now) result scratch.new [] }
 {
-    decided_answer(verdicts::has_sll_conflict_terminating_prediction(store, set, scratch, stops))
+    truth_answer(verdicts::has_sll_conflict_terminating_prediction(store, set, scratch, stops))
 }
 
 // Which subsets are there? They are written to 1,025 words.
@@ -77,7 +77,7 @@ pub extern "C" fn purse_conflicting_alt_subsets(
     ensures { OpensVerdict verdict_number_of (conflicting_alt_subsets_call store.now set.now scratch.old output.old)
         result scratch.new output.new }
 {
-    written_number(verdicts::conflicting_alt_subsets(store, set, scratch, output))
+    done_number(verdicts::conflicting_alt_subsets(store, set, scratch, output))
 }
 
 // Which alternatives are in subsets with two or more? They are written to 257 words.
@@ -91,7 +91,7 @@ pub extern "C" fn purse_conflicting_alts(
     ensures { OpensVerdict verdict_number_of (conflicting_alts_call store.now set.now scratch.old output.old)
         result scratch.new output.new }
 {
-    written_number(verdicts::conflicting_alts(store, set, scratch, output))
+    done_number(verdicts::conflicting_alts(store, set, scratch, output))
 }
 
 // How many subsets, which unique and which viable alternative, and what verdict with these stop states?

@@ -1,4 +1,5 @@
 // The doors: each call as a C function over plain numbers and slices.
+// Kept by the C interface: numbers for modes, and store, set and scratch beside one another.
 #![tactic(auto)]
 
 mod adding;

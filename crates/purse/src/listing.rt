@@ -5,7 +5,7 @@ ghost use Rattle.verdicts.specs.Answers.{unique_alt};
 ghost use Rattle.verdicts.specs.Calls.{alternative};
 ghost use Rattle.answers.specs.VerdictAnswers.{alt_answer_of};
 
-use answers::{EntryAnswer, one_answer};
+use answers::{EntryAnswer, entry_answer};
 use setcheck::AtnConfig;
 
 // Which alternative have all configs of the list?
@@ -13,5 +13,5 @@ use setcheck::AtnConfig;
 pub extern "C" fn purse_unique_alt_of(configs: &[AtnConfig]) -> EntryAnswer
     ensures { result ≡ alt_answer_of (alternative (unique_alt (map config_of configs.now))) }
 {
-    one_answer(records::unique_alt(configs))
+    entry_answer(Ok(records::unique_alt(configs)))
 }

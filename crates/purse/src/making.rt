@@ -6,7 +6,7 @@ ghost use Rattle.interning.specs.SingletonCall.{singleton_call};
 ghost use Rattle.answers.specs.Answers.{number_of};
 ghost use Rattle.purse.specs.Doors.{OpensCounted, by_full_context};
 
-use answers::{CountedAnswer, fresh_number, merged_answer, number_answer};
+use answers::{CountedAnswer, done_number, merged_answer, number_answer};
 use words::{ContextId, ReturnState};
 
 // Makes the lent words a fresh store.
@@ -14,7 +14,7 @@ use words::{ContextId, ReturnState};
 pub extern "C" fn purse_fresh(store: &mut [u32]) -> u32
     ensures { (result ≡ number_of (fresh_call store.old).0) × (store.new ≡ (fresh_call store.old).1) }
 {
-    fresh_number(store::fresh(store))
+    done_number(store::fresh(store))
 }
 
 // The context of `state` over `parent`, and 1 where it was made.

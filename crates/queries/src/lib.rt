@@ -2,14 +2,12 @@
 // checks the store itself, and leaves it zero.
 #![tactic(auto)]
 
-mod answers;
 mod empties;
 mod parents;
 mod paths;
 mod sizes;
 mod states;
 
-pub use answers::{Counted, Decided, ParentFound, StateFound};
 pub use empties::is_empty;
 pub use parents::parent;
 pub use paths::has_empty_path;

@@ -8,36 +8,33 @@ ghost use Rattle.queries.specs.Answers.{decided};
 ghost use Rattle.store.specs.Asks.{Known};
 ghost use Rattle.queries.specs.Queries.{has_empty_path, query_call};
 
-use crate::answers::Decided;
-use store::inner::admit::Admitted;
+use layout::{Record, StoreWords};
 use store::inner::ask::ask;
-use words::{COMPACT_EMPTY_RETURN_STATE, ContextId};
+use words::{COMPACT_EMPTY_RETURN_STATE, ContextId, Refusal};
 
 // Is the last entry a `$`? States rise, so no other can be.
-fn ends_in_mark(store: &[u32], context: usize) -> bool
+fn ends_in_mark(store: &StoreWords, context: usize) -> bool
     requires { Known store.now context }
     ensures { result ≡ mem (tree (store_of store.now) context) [] }
 {
-    let kind = layout::kind_of(store, context);
-    if kind == 2 {
-        let from = layout::first_of(store, context) as usize;
-        let n = layout::second_of(store, context) as usize;
-        return layout::pool_state(store, from + n - 1) == COMPACT_EMPTY_RETURN_STATE;
+    match layout::record_of(store, context) {
+        Record::Root => true,
+        Record::Array(from, n) => {
+            layout::pool_entry(store, (from + n - 1) as usize).state.0 == COMPACT_EMPTY_RETURN_STATE
+        }
+        _ => false,
     }
-    kind == 0
 }
 
 // Is the empty stack one of a context's?
-pub fn has_empty_path(store: &[u32], scratch: &mut [u32], context: ContextId) -> Decided
+pub fn has_empty_path(
+    store: &[u32],
+    scratch: &mut [u32],
+    context: ContextId,
+) -> Result<bool, Refusal>
     ensures { leaves (decided result) store.now scratch.new
         ≡ query_call has_empty_path store.now scratch.old context.0 }
 {
-    let asked = ask(store, scratch, context);
-    if let Admitted::Refused(refusal) = asked {
-        return Decided::Refused(refusal);
-    }
-    if ends_in_mark(store, context.0 as usize) {
-        return Decided::Yes;
-    }
-    Decided::No
+    let store = ask(store, scratch, context)?;
+    Ok(ends_in_mark(store, context.0 as usize))
 }

@@ -8,31 +8,27 @@ ghost use Rattle.queries.specs.Answers.{counted};
 ghost use Rattle.store.specs.Asks.{Known};
 ghost use Rattle.queries.specs.Queries.{entry_count, query_call};
 
-use crate::answers::Counted;
-use store::inner::admit::Admitted;
+use layout::{Record, StoreWords};
 use store::inner::ask::ask;
-use words::ContextId;
+use words::{ContextId, Refusal};
 
+// Kept beside the one of `entries`: queries stand on the store alone, not on what makes contexts.
 // An array has as many as its length says, any other record one.
-fn entry_count(store: &[u32], context: usize) -> u32
+fn entry_count(store: &StoreWords, context: usize) -> u32
     requires { Known store.now context }
     ensures { result ≡ size (node_at (store_of store.now) context) }
 {
-    let kind = layout::kind_of(store, context);
-    if kind == 2 {
-        return layout::second_of(store, context);
+    match layout::record_of(store, context) {
+        Record::Array(_, n) => n,
+        _ => 1,
     }
-    1
 }
 
 // How many entries has a context?
-pub fn len(store: &[u32], scratch: &mut [u32], context: ContextId) -> Counted
+pub fn len(store: &[u32], scratch: &mut [u32], context: ContextId) -> Result<u32, Refusal>
     ensures { leaves (counted result) store.now scratch.new
         ≡ query_call entry_count store.now scratch.old context.0 }
 {
-    let asked = ask(store, scratch, context);
-    if let Admitted::Refused(refusal) = asked {
-        return Counted::Refused(refusal);
-    }
-    Counted::Count(entry_count(store, context.0 as usize))
+    let store = ask(store, scratch, context)?;
+    Ok(entry_count(store, context.0 as usize))
 }

@@ -1,7 +1,6 @@
 // The return state of a context's entry at an index.
-ghost use Rattle.std.specs.Prelude.{◌≡◌};
+ghost use Rattle.std.specs.Prelude.{◌≡◌, Ok};
 ghost use Rattle.arena.specs.Store.{node_at};
-ghost use Rattle.layout.specs.Layout.{kind};
 ghost use Rattle.layout.specs.Decode.{store_of};
 ghost use Rattle.store.specs.Calls.{leaves};
 ghost use Rattle.queries.specs.Answers.{state_found};
@@ -9,41 +8,36 @@ ghost use Rattle.store.specs.Asks.{Known};
 ghost use Rattle.queries.specs.Queries.{entry_state, query_call};
 ghost use Rattle.queries.specs.Listed.{state_at};
 
-use crate::answers::StateFound;
-use store::inner::admit::Admitted;
+use layout::{Record, StoreWords};
 use store::inner::ask::ask;
-use words::{CompactState, ContextId, EMPTY_RETURN_STATE, ReturnState};
+use words::{ContextId, EMPTY_RETURN_STATE, Refusal, ReturnState};
 
-// Of an array: the entry's state, as the border shows it.
-fn array_state(store: &[u32], context: usize, index: u32) -> StateFound
-    requires { Known store.now context × (kind store.now context ≡ 2) }
-    ensures { state_found result ≡ state_at (node_at (store_of store.now) context) index }
-{
-    if index < layout::second_of(store, context) {
-        let from = layout::first_of(store, context) as usize;
-        let held = layout::pool_state(store, from + index as usize);
-        return StateFound::State(words::expand(CompactState(held)));
-    }
-    StateFound::Nothing
-}
-
-// Of any record; that of context 0 has one entry, a `$`.
-fn state_at(store: &[u32], context: usize, index: u32) -> StateFound
+// The state of an entry, as the border shows it; context 0 has one entry, a `$`.
+fn state_at(store: &StoreWords, context: usize, index: usize) -> Option<ReturnState>
     requires { Known store.now context }
-    ensures { state_found result ≡ state_at (node_at (store_of store.now) context) index }
+    ensures { state_found (Ok result) ≡ state_at (node_at (store_of store.now) context) index }
 {
-    let kind = layout::kind_of(store, context);
-    if kind == 2 {
-        return array_state(store, context, index);
+    match layout::record_of(store, context) {
+        Record::Single(entry) => {
+            if index == 0 {
+                return Some(ReturnState::from(entry.state));
+            }
+            None
+        }
+        Record::Array(from, n) => {
+            if index < n as usize {
+                let held = layout::pool_entry(store, from as usize + index).state;
+                return Some(ReturnState::from(held));
+            }
+            None
+        }
+        _ => {
+            if index == 0 {
+                return Some(ReturnState(EMPTY_RETURN_STATE));
+            }
+            None
+        }
     }
-    if index != 0 {
-        return StateFound::Nothing;
-    }
-    if kind == 1 {
-        let held = layout::second_of(store, context);
-        return StateFound::State(words::expand(CompactState(held)));
-    }
-    StateFound::State(ReturnState(EMPTY_RETURN_STATE))
 }
 
 // What is the state of a context's entry at an index?
@@ -52,13 +46,10 @@ pub fn return_state(
     scratch: &mut [u32],
     context: ContextId,
     index: u32,
-) -> StateFound
+) -> Result<Option<ReturnState>, Refusal>
     ensures { leaves (state_found result) store.now scratch.new
         ≡ query_call (entry_state index) store.now scratch.old context.0 }
 {
-    let asked = ask(store, scratch, context);
-    if let Admitted::Refused(refusal) = asked {
-        return StateFound::Refused(refusal);
-    }
-    state_at(store, context.0 as usize, index)
+    let store = ask(store, scratch, context)?;
+    Ok(state_at(store, context.0 as usize, index as usize))
 }

@@ -1,6 +1,8 @@
 -- The reason's line and call, from what the parts leave. Nothing here has to be believed.
-use Rattle.std.specs.Prelude.{◌≡◌, refl, List, [], ◌∷◌, ℕ, ◌+◌, ◌*◌, ◌≤◌, length}
-use Rattle.std.proofs.Common.{◌∙◌, arith}
+use Rattle.std.specs.Prelude.{◌≡◌, refl, List, [], ◌∷◌, ℕ, ◌+◌, ◌-◌, ◌*◌, ◌≤◌, length, take, drop, Result, Err}
+use Rattle.std.proofs.Common.{◌∙◌, sym, arith, append_assoc}
+use borrow.Rule.Slice.PartMut.{put_mid, Post-is}
+use Rattle.std.proofs.lemmas.List.Edits.{sets-eq}
 use Rattle.lines.specs.LayoutLayout.{blank}
 use Rattle.lines.specs.Reason.{one, clash}
 use Rattle.reasons.specs.Outputs.{alts_length}
@@ -8,12 +10,14 @@ use Rattle.reasons.specs.VerdictsCalls.{verdict_left}
 use Rattle.reasons.specs.Calls.{why_call}
 use Rattle.reasons.specs.Replies.{told}
 use Rattle.reasons.specs.declared.answers.Reason.{Reason}
-use Rattle.lines.specs.Laid.{Wrote}
+use Rattle.words.specs.Refusals.{number}
+use Rattle.words.specs.declared.refusals.Refusal.{Refusal}
+use Rattle.lines.specs.Laid.{laid, Wrote}
 use Rattle.lines.specs.Laid.Laws.{wrote_then, wrote_length}
-use Rattle.lines.specs.Lines.{line_bytes, spaced, reason_line}
-use Rattle.verdictreplies.specs.Replies.{verdict_line_of}
+use Rattle.lines.specs.Lines.{line_bytes, spaced, reason_line, refusal_line}
+use Rattle.verdictreplies.specs.Replies.{held_stops, verdict_line_of}
 use Rattle.verdictreplies.specs.Figured.{Told, Piece, Upto}
-use Rattle.reasonreplies.specs.Spread.{Spread}
+use Rattle.lines.specs.Spread.{Spread}
 
 -- the bytes of `W one` and of `W clash`
 abbrev pub lone : List ℕ
@@ -44,8 +48,22 @@ module _ (b : List ℕ) (s k : ℕ) {j₁ : ℕ} {u₁ : List ℕ} {j₂ : ℕ} 
 
 -- ---- the call, with states that are those held and an output of zeros
 
-pub why_told : (b w v y s t : List ℕ) (a : Reason) (o p : List ℕ) (r : ℕ) (u z : List ℕ) → verdict_left (told a p) z p ≡ why_call w v y s o → s ≡ t
-    → o ≡ blank alts_length → Wrote b 0 (verdict_line_of (told a p)) r u → Told b (why_call w v y t (blank alts_length)) r u z
-why_told b w v y s t a o p r u z c h e q =
-    let g : verdict_left (told a p) z p ≡ why_call w v y t (blank alts_length) = rw (h, e) at c in
-    rw (← g) (record { wrote = q; scratch = refl })
+module _ (b w v y s t o p : List ℕ) (r : ℕ) (u z : List ℕ) (h : s ≡ held_stops t) (e : o ≡ blank alts_length) where
+  pub why_told : (a : Result Reason Refusal) → verdict_left (told a p) z p ≡ why_call w v y s o → Wrote b 0 (verdict_line_of (told a p)) r u
+      → Told b (why_call w v y (held_stops t) (blank alts_length)) r u z
+  why_told a c q = rw (← h, ← e, ← c) (record { wrote = q; scratch = refl })
+
+  pub why_refused : (f : Refusal) → verdict_left (told (Err f) p) z p ≡ why_call w v y s o → Wrote b 0 (refusal_line (number f)) r u
+      → Told b (why_call w v y (held_stops t) (blank alts_length)) r u z
+  unfolding verdict_line_of
+  why_refused f c q = why_told (Err f) c q
+
+-- ---- bytes copied into their place
+
+pub wrote_bytes : (b xs ys : List ℕ) (i : ℕ) → i + length xs ≤ length b → ys ≡ xs → Wrote b i xs (i + length xs) (put_mid i (i + length xs - i) b ys)
+unfolding laid
+wrote_bytes b xs ys i h e = record {
+  after = refl;
+  bytes = rw (e, Post-is i (i + length xs) b (omega arith)) (sym (append_assoc (take i b) xs (drop (i + length xs) b)) ∙ sym (sets-eq xs b i h));
+  within = h;
+}

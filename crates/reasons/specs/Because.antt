@@ -1,5 +1,5 @@
 -- From what the walks find to the reason. Nothing here has to be believed.
-use Rattle.std.specs.Prelude.{◌≡◌, refl, Bool, true, false, ◌&&◌, not, List, ℕ, ◌<◌, eqb}
+use Rattle.std.specs.Prelude.{◌≡◌, refl, Bool, true, false, ◌&&◌, not, List, ℕ, ◌<◌, eqb, Some, None}
 use Rattle.std.proofs.Common.{sym, ap, ◌∙◌, arith}
 use Rattle.std.proofs.Math.Path.{fun_ext}
 use Rattle.words.specs.Bools.{bool_iff, never_both, is_false}
@@ -28,7 +28,6 @@ use Rattle.grouping.specs.Marks.{picks}
 use Rattle.grouping.specs.FirstMarked.{served, FirstPicked}
 use Rattle.grouping.specs.declared.inner.traits.Alike.TheVariants.{State, Place}
 use Rattle.grouping.specs.declared.inner.marks.Picks.TheVariants.{Rivals}
-use Rattle.setcheck.specs.declared.inner.keys.KeyPlace.TheVariants.{At, New}
 use Rattle.deciding.specs.Picked.{both_exact, place_exact, rival_exact, any_fails}
 use Rattle.reasons.specs.First.{place_first, first_subset}
 
@@ -61,7 +60,7 @@ module _ (v : List ℕ) where
   unfolding served
   served_many i h = clash_exact (configs_of v) (config_at v i) (here v (config_count v) i h)
 
-  module _ (i : ℕ) (f : FirstPicked v Place Rivals true (At i)) where
+  module _ (i : ℕ) (f : FirstPicked v Place Rivals true (Some i)) where
     not_before : (j : ℕ) → j < i → Many (subset (configs_of v) (config_at v j)) → ⊥
     not_before j l m = f.2 j l (served_many j (omega (arith, f.0)) ∙ (many_exact (subset (configs_of v) (config_at v j))).1 m)
 
@@ -84,7 +83,7 @@ module _ (v : List ℕ) where
           not_before j l (rw (subset_same (configs_of v) _ _ one) many_here));
     }
 
-  pub clash_none : FirstPicked v Place Rivals true New → Conflict (configs_of v) → ⊥
+  pub clash_none : FirstPicked v Place Rivals true None → Conflict (configs_of v) → ⊥
   clash_none f c =
       let s = some_place v (Rival (configs_of v)) (config_count v) c in
       f s.0 s.1 (served_many s.0 s.1
@@ -102,11 +101,11 @@ module _ (v : List ℕ) where
   lonely : (i : ℕ) → JustOne (configs_of v) (config_at v i) → served v State Rivals i ≡ false
   lonely i j = served_more i ∙ ap not ((just_exact (configs_of v) (config_at v i)).1 j)
 
-  pub lone_first : (i : ℕ) → FirstPicked v State Rivals false (At i) → FirstOf (JustOne (configs_of v)) (config_at v i) (configs_of v)
+  pub lone_first : (i : ℕ) → FirstPicked v State Rivals false (Some i) → FirstOf (JustOne (configs_of v)) (config_at v i) (configs_of v)
   lone_first i f =
       place_first (JustOne (configs_of v)) v (config_count v) i f.0 (λ j l p. f.2 j l (lonely j p)) (alone i f.1)
 
-  pub lone_none : FirstPicked v State Rivals false New → (c : Config) → FirstOf (JustOne (configs_of v)) c (configs_of v) → ⊥
+  pub lone_none : FirstPicked v State Rivals false None → (c : Config) → FirstOf (JustOne (configs_of v)) c (configs_of v) → ⊥
   lone_none f c h =
       let r = first_some (JustOne (configs_of v)) (configs_of v) c h in
       let s = some_place v (JustOne (configs_of v)) (config_count v) (in_some (JustOne (configs_of v)) (configs_of v) c r.0 r.1) in

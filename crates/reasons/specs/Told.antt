@@ -1,5 +1,5 @@
 -- What each outcome of the walk comes to: the reason, and the words of its alternatives. Nothing here has to be believed.
-use Rattle.std.specs.Prelude.{◌≡◌, refl, true, false, List, [], ◌∷◌, ℕ, ◌<◌, length, get_or, take, drop, replicate}
+use Rattle.std.specs.Prelude.{◌≡◌, refl, true, false, List, [], ◌∷◌, ℕ, ◌<◌, length, get_or, take, drop, replicate, Some, None}
 use Rattle.std.proofs.Common.{sym, ap, ap₂, ◌∙◌, arith, take_at}
 use Rattle.store.specs.Layout.{blank}
 use Rattle.groups.specs.Config.{Config}
@@ -13,7 +13,6 @@ use Rattle.grouping.specs.Led.{Lent}
 use Rattle.grouping.specs.FirstMarked.{FirstPicked}
 use Rattle.grouping.specs.declared.inner.traits.Alike.TheVariants.{State, Place}
 use Rattle.grouping.specs.declared.inner.marks.Picks.TheVariants.{Rivals}
-use Rattle.setcheck.specs.declared.inner.keys.KeyPlace.TheVariants.{At, New}
 use Rattle.outputs.specs.Outputs.{alts_length, padded}
 use Rattle.outputs.specs.Members.{alts_at}
 use Rattle.verdicts.specs.Calls.{VerdictReply, because}
@@ -53,17 +52,17 @@ module _ (stops v o : List ℕ) where
     unfolding reason_words clashing
     tells_stop e = tells stop (sym (reason_stop stops cs e)) (zero ∙ none_written)
 
-    pub tells_none : stopped stops cs ≡ false → FirstPicked v Place Rivals true New → Tells (because none)
+    pub tells_none : stopped stops cs ≡ false → FirstPicked v Place Rivals true None → Tells (because none)
     unfolding reason_words clashing
     tells_none go c = tells none (because_none stops cs go (clash_none v c)) (zero ∙ none_written)
 
-    pub tells_one : stopped stops cs ≡ false → (i : ℕ) → FirstPicked v Place Rivals true (At i) → (j : ℕ) → FirstPicked v State Rivals false (At j) → (s a : ℕ)
+    pub tells_one : stopped stops cs ≡ false → (i : ℕ) → FirstPicked v Place Rivals true (Some i) → (j : ℕ) → FirstPicked v State Rivals false (Some j) → (s a : ℕ)
         → s ≡ (config_at v j).state → a ≡ (config_at v j).alternative → Tells (because (one s a))
     unfolding reason_words clashing subset
     tells_one go i c j l s a e f =
         tells (one s a) (ap₂ one e f ∙ because_one stops cs go _ _ _ (clash_first v i c) (config_at v j) (lone_first v j l)) (zero ∙ none_written)
 
-  pub tells_clash : stopped stops cs ≡ false → (i : ℕ) → FirstPicked v Place Rivals true (At i) → FirstPicked v State Rivals false New
+  pub tells_clash : stopped stops cs ≡ false → (i : ℕ) → FirstPicked v Place Rivals true (Some i) → FirstPicked v State Rivals false None
       → o ≡ padded alts_length (length (alts_at v i) ∷ alts_at v i)
       → (s k : ℕ) → s ≡ (config_at v i).state → k ≡ (config_at v i).context → Tells (because (clash s k (take (get_or o 0 0) (drop 1 o))))
   unfolding reason_words clashing subset

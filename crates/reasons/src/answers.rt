@@ -1,5 +1,5 @@
-// What a question for the reason answers. A refusal carries its number and nothing else.
-use words::{Alternative, ContextId, Refusal};
+// What a question for the reason answers, where it is not refused.
+use words::{Alternative, ContextId};
 
 // Every config has stopped; no subset holds two alternatives; a state has only this alternative; or a clash
 // in the subset of this state and this context.
@@ -9,5 +9,4 @@ pub enum Reason {
     NoClash,
     One(u32, Alternative),
     Clash(u32, ContextId),
-    Refused(Refusal),
 }

@@ -8,7 +8,6 @@ use crate::answers::Reason;
 use crate::inner::walk::reason_of;
 use deciding::inner::verdict::MOST_STOPS;
 use setcheck::inner::open::open_set;
-use store::inner::admit::Admitted;
 use words::Refusal;
 
 const ALTS_WORDS: usize = 257;
@@ -20,22 +19,19 @@ pub fn why(
     scratch: &mut [u32],
     stops: &[u32],
     output: &mut [u32],
-) -> Reason
+) -> Result<Reason, Refusal>
     ensures { verdict_left (told result output.new) scratch.new output.new
         ≡ why_call store.now set.now scratch.old stops.now output.old }
 {
     if output.len() != ALTS_WORDS {
-        return Reason::Refused(Refusal::WrongLength);
+        return Err(Refusal::WrongLength);
     }
-    let opened = open_set(store, set, scratch);
-    if let Admitted::Refused(refusal) = opened {
-        return Reason::Refused(refusal);
-    }
+    open_set(store, set, scratch)?;
     if MOST_STOPS < stops.len() {
         words::clear(scratch);
-        return Reason::Refused(Refusal::TooManyStops);
+        return Err(Refusal::TooManyStops);
     }
     let reason = reason_of(set, scratch, stops, output);
     words::clear(scratch);
-    reason
+    Ok(reason)
 }

@@ -1,5 +1,5 @@
 -- What the check of a store says of a record, and what it keeps while it goes from record to record. Nothing here has to be believed.
-use Rattle.std.specs.Prelude.{◌≡◌, Bool, true, false, List, ◌∷◌, ℕ, suc, ◌<◌, ◌≤◌, ◌+◌, ◌*◌, length, get_or}
+use Rattle.std.specs.Prelude.{◌≡◌, Bool, true, false, List, ◌∷◌, ℕ, suc, ◌<◌, ◌≤◌, ◌+◌, ◌*◌, length, get_or, Option, Some, None}
 use Rattle.arena.specs.Store.{find, nowhere}
 use Rattle.layout.specs.Layout.{scratch_words, most_entries, stop, count, kind, first, second, parent, state}
 use Rattle.layout.specs.Listing.Laws.{Entries}
@@ -8,8 +8,6 @@ use Rattle.layout.specs.Sound.{SoundWords}
 use Rattle.encoding.specs.Reads.{lengths}
 use Rattle.index.specs.Records.{Records, Stacked, Proper, stack_node}
 use Rattle.index.specs.Index.{Indexed}
-use Rattle.recordcheck.specs.declared.inner.check.Checked.{Checked}
-use Rattle.recordcheck.specs.declared.inner.check.Checked.TheVariants.{Good, Bad}
 
 -- record c, not the first, is sound after the records before it
 pub data GoodRecord (w : List ℕ) (c : ℕ) : Type 0 where
@@ -28,9 +26,9 @@ pub record Passed (w z : List ℕ) (c q : ℕ) : Type 0 where
   pub good : (d : ℕ) → 0 < d → d < c → GoodRecord w d
 
 -- the judgement of record c, and the scratch after it
-abbrev pub Judged : List ℕ → ℕ → Checked → List ℕ → Type 0
-Judged w c (Good q) z = Passed w z (suc c) q
-Judged w c Bad z = (GoodRecord w c → ⊥) × (length z ≡ scratch_words)
+abbrev pub Judged : List ℕ → ℕ → Option ℕ → List ℕ → Type 0
+Judged w c (Some q) z = Passed w z (suc c) q
+Judged w c None z = (GoodRecord w c → ⊥) × (length z ≡ scratch_words)
 
 -- entries on the stack, looked for among the first c records
 pub record Fresh (w z : List ℕ) (c n : ℕ) : Type 0 where
@@ -61,9 +59,9 @@ pub record EntryAt (st pa : ℕ → ℕ) (from j c : ℕ) : Type 0 where
   pub dollar : st j ≡ stop → pa j ≡ 0
 
 -- the judgement of all records after the first
-abbrev pub AllJudged : List ℕ → ℕ → Checked → List ℕ → Type 0
-AllJudged w c (Good q) z = Passed w z c q
-AllJudged w c Bad z = (((d : ℕ) → 0 < d → d < c → GoodRecord w d) → ⊥) × (length z ≡ scratch_words)
+abbrev pub AllJudged : List ℕ → ℕ → Option ℕ → List ℕ → Type 0
+AllJudged w c (Some q) z = Passed w z c q
+AllJudged w c None z = (((d : ℕ) → 0 < d → d < c → GoodRecord w d) → ⊥) × (length z ≡ scratch_words)
 
 -- record 0 is the empty context
 abbrev pub Root : List ℕ → Type 0

@@ -1,69 +1,53 @@
 -- The alternative of every record, by a walk over the list. Nothing here has to be believed.
-use Rattle.std.specs.Prelude.{◌≡◌, refl, Bool, true, false, ◌&&◌, List, [], ◌∷◌, map, ℕ, ◌<◌, eqb, length, get_or}
-use Rattle.std.proofs.Common.{sym, ap, ◌∙◌, arith, eq-eqb, ne_eqb}
-use Rattle.words.specs.Numbers.{two}
+use Rattle.std.specs.Prelude.{◌≡◌, refl, Bool, true, false, List, [], ◌∷◌, map, take, ℕ, ◌≤◌, eqb, length, Some, None, slice_get}
+use Rattle.std.specs.List.{list_all}
+use Rattle.std.specs.Bool.{then_some}
+use Rattle.std.proofs.Common.{ap, ◌∙◌, arith, eq-eqb, take_all}
+use Rattle.std.proofs.Math.Path.{subst}
+use Rattle.words.specs.declared.names.Alternative.{Alternative}
 use Rattle.sets.specs.Config.{Config}
 use Rattle.sets.specs.Lists.{all}
 use Rattle.setcheck.specs.Configs.{config_of}
 use Rattle.setcheck.specs.declared.config.AtnConfig.{AtnConfig}
-use Rattle.deciding.specs.Answers.{Answer, none, only, agree, unique_alt}
+use Rattle.deciding.specs.Answers.{none, agree, unique_alt}
+use Rattle.deciding.specs.OneAlt.{one_alt}
+use Rattle.deciding.specs.Stops.{eqb_swap}
 
-abbrev pub no_config : AtnConfig
-no_config = record {
-  state = 0;
-  alt = record { 0 = 0 };
-  context = record { 0 = 0 };
-  semantic_context = record { 0 = 0 };
-  reaches_into_outer_context = 0;
-  semantic_provenance_and_flags = 0;
-}
-
-abbrev pub alt_at : List AtnConfig → ℕ → ℕ
-alt_at cs i = (get_or cs i no_config).alt.0
-
--- whether each has this alternative, in order, after a first answer
-abbrev pub all_from : Bool → List AtnConfig → ℕ → Bool
-all_from t [] a = t
-all_from t (c ∷ cs) a = all_from (t && eqb c.alt.0 a) cs a
+-- whether each has this alternative
+abbrev pub all_have : ℕ → List AtnConfig → Bool
+all_have a cs = list_all (λ c. eqb c.alt.0 a) cs
 
 abbrev alts : List AtnConfig → List ℕ
 alts cs = map (λ (c : Config). c.alternative) (map config_of cs)
 
-eqb_swap : (a b : ℕ) → eqb a b ≡ eqb b a
-eqb_swap a b = two a b (λ e. rw (eq-eqb a b e, eq-eqb b a (sym e))) (λ d. rw (ne_eqb a b d, ne_eqb b a (λ e. d (sym e))))
-
-and_first : (s b c : Bool) → ((s && b) && c) ≡ (s && (b && c))
-and_first true b c = refl
-and_first false b c = refl
-
-from_all : (t : Bool) (cs : List AtnConfig) (a : ℕ) → all_from t cs a ≡ (t && all (eqb a) (alts cs))
+have_alts : (a : ℕ) (cs : List AtnConfig) → all_have a cs ≡ all (eqb a) (alts cs)
 unfolding all
-from_all true [] a = refl
-from_all false [] a = refl
-from_all t (c ∷ cs) a = from_all (t && eqb c.alt.0 a) cs a ∙ rw (eqb_swap c.alt.0 a) (and_first t (eqb a c.alt.0) (all (eqb a) (alts cs)))
+have_alts a [] = refl
+have_alts a (c ∷ cs) = rw (eqb_swap c.alt.0 a, have_alts a cs)
 
--- the answer that a walk over all gives
-abbrev pub picked : Bool → ℕ → Answer
-picked true a = only a
-picked false a = none
+by_first : (t : Bool) (a : Alternative) (xs : List ℕ) → t ≡ all (eqb a.0) xs → one_alt (then_some t a) ≡ agree (a.0 ∷ xs)
+unfolding agree
+by_first true a xs e = rw (← e, agree)
+by_first false a xs e = rw (← e, agree)
 
 pub unique_none : (cs : List AtnConfig) → length cs ≡ 0 → none ≡ unique_alt (map config_of cs)
 unfolding unique_alt agree
 unique_none [] e = refl
 unique_none (c ∷ cs) e = absurd (omega arith)
 
-by_test : (b : Bool) (x : ℕ) → picked b x ≡ elim b [ true ↦ only x | false ↦ none ]
-by_test true x = refl
-by_test false x = refl
+pub none_first : (cs : List AtnConfig) → slice_get cs 0 ≡ None → length cs ≡ 0
+none_first [] e = refl
+none_first (c ∷ cs) e = cc
 
-by_first : (x : ℕ) (xs : List ℕ) → picked (all (eqb x) xs) x ≡ agree (x ∷ xs)
-unfolding agree
-by_first x xs = by_test (all (eqb x) xs) x
-
-all_first : (c : AtnConfig) (cs : List AtnConfig) → all_from true (c ∷ cs) c.alt.0 ≡ all (eqb c.alt.0) (alts cs)
-all_first c cs = rw (eq-eqb c.alt.0 c.alt.0 refl) (from_all true cs c.alt.0)
-
-pub unique_some : (cs : List AtnConfig) → 0 < length cs → (t : Bool) → t ≡ all_from true cs (alt_at cs 0) → picked t (alt_at cs 0) ≡ unique_alt (map config_of cs)
+first_have : (c : AtnConfig) (cs : List AtnConfig) (t : Bool) → t ≡ all_have c.alt.0 (c ∷ cs) → one_alt (then_some t c.alt) ≡ unique_alt (map config_of (c ∷ cs))
 unfolding unique_alt
-unique_some [] h t e = absurd (omega arith)
-unique_some (c ∷ cs) h t e = ap (λ (b : Bool). picked b c.alt.0) (e ∙ all_first c cs) ∙ by_first c.alt.0 (alts cs)
+first_have c cs t e = by_first t c.alt (alts cs) (e ∙ rw (eq-eqb c.alt.0 c.alt.0 refl) (have_alts c.alt.0 cs))
+
+-- t is what a walk as far as i, at the end, says
+pub unique_some : (cs : List AtnConfig) (x : AtnConfig) → slice_get cs 0 ≡ Some x → (i : ℕ) → length cs ≤ i → (t : Bool) → t ≡ all_have x.alt.0 (take i cs)
+    → one_alt (then_some t x.alt) ≡ unique_alt (map config_of cs)
+unique_some [] x h i l t e = cc
+unique_some (c ∷ cs) x h i l t e =
+    let q : c ≡ x = cc in
+    subst (λ (y : AtnConfig). t ≡ all_have y.alt.0 (c ∷ cs) → one_alt (then_some t y.alt) ≡ unique_alt (map config_of (c ∷ cs))) q (first_have c cs t)
+    (e ∙ ap (all_have x.alt.0) (take_all i (c ∷ cs) l))

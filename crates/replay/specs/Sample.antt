@@ -1,13 +1,10 @@
 -- A sample of scripts with their answers, and what is counted in it: "its length (u32), its bytes, the length of its answer (u32),
 -- the answer's bytes; all little-endian, one after the other, to the end of the file". Nothing here has to be believed: the program is a test.
 pub mod Laws
-use Rattle.std.specs.Prelude.{◌≡◌, List, ℕ, ◌+◌, ◌-◌, ◌≤◌, length, take, drop}
+use Rattle.std.specs.Prelude.{◌≡◌, List, ℕ, ◌+◌, ◌-◌, ◌≤◌, length, take, drop, Option, Some, None}
 use Rattle.format.specs.Bytes.{u32_at}
 use Rattle.script.specs.Steps.{script_replies}
-use Rattle.replay.specs.declared.sample.Part.{Part}
-use Rattle.replay.specs.declared.sample.Part.TheVariants.{Found, Cut as no_part}
 use Rattle.replay.specs.declared.sample.Tally.{Tally}
-use Rattle.replay.specs.declared.sample.Tally.TheVariants.{Whole, Cut as noTally}
 
 -- bytes of a sample, at most
 abbrev pub sample_bytes : ℕ
@@ -23,9 +20,9 @@ pub record PartAt (s : List ℕ) (at i j : ℕ) : Type 0 where
   pub end : j ≡ i + u32_at s at
   pub within : j ≤ length s
 
-abbrev pub PartIs : List ℕ → ℕ → Part → Type 0
-PartIs s at (Found i j) = PartAt s at i j
-PartIs s at no_part = (i j : ℕ) → PartAt s at i j → ⊥
+abbrev pub PartIs : List ℕ → ℕ → Option (ℕ × ℕ) → Type 0
+PartIs s at (Some p) = PartAt s at p.0 p.1
+PartIs s at None = (i j : ℕ) → PartAt s at i j → ⊥
 
 -- d is 0 where the script gives the answer, and 1 where it gives another
 pub data Differs (script answer : List ℕ) : ℕ → Type 0 where
@@ -39,6 +36,6 @@ pub data From (s : List ℕ) : ℕ → ℕ → ℕ → Type 0 where
       → From s at (n + 1) (d + e)
 
 -- the sample is whole, with these counts; or it ends within a script or an answer
-abbrev pub Tallied : List ℕ → Tally → Type 0
-Tallied s (Whole n d) = From s 0 n d
-Tallied s noTally = (n d : ℕ) → From s 0 n d → ⊥
+abbrev pub Tallied : List ℕ → Option Tally → Type 0
+Tallied s (Some t) = From s 0 t.scripts t.differences
+Tallied s None = (n d : ℕ) → From s 0 n d → ⊥

@@ -23,6 +23,7 @@ fn room() -> [u8; SAMPLE_BYTES]
 
 // Reads until `buf` is full, the input ends or a read fails, and returns how many bytes it put at the
 // start of `buf`.
+// Kept by hand: the library's reads to the end want a heap.
 fn read_full(input: &mut impl Read, buf: &mut [u8]) -> usize
     ensures { result ≤ length buf.new }
 {
@@ -40,8 +41,14 @@ fn read_full(input: &mut impl Read, buf: &mut [u8]) -> usize
 }
 
 // Prints what a comparison found.
-fn report(rt: &impl Print, tally: Tally) -> io::Result<()> {
-    let Tally::Whole(scripts, differences) = tally else {
+fn report(rt: &impl Print, tally: Option<Tally>) -> io::Result<()> {
+    let Some(
+        Tally {
+            scripts,
+            differences,
+        },
+    ) = tally
+    else {
         return println!(rt; "sample.bin is cut short");
     };
     println!(rt; "{scripts} scripts, {differences} differences")

@@ -4,34 +4,27 @@ ghost use Rattle.replay.specs.Sample.{Differs, PartIs, Tallied};
 
 use format::inner::bytes::u32_at;
 
-// Where a part starts and ends, or that it is cut short.
+// How many scripts there are, and how many of them give another answer.
 #[derive(Clone, Copy)]
-pub enum Part {
-    Found(usize, usize),
-    Cut,
+pub struct Tally {
+    pub scripts: u64,
+    pub differences: u64,
 }
 
-// How many scripts there are and how many of them give another answer; or the sample is cut short.
-#[derive(Clone, Copy)]
-pub enum Tally {
-    Whole(u64, u64),
-    Cut,
-}
-
-// The part whose length stands at a place.
-fn part_at(bytes: &[u8], at: usize) -> Part
+// Where the part starts and ends whose length stands at a place, unless it is cut short.
+fn part_at(bytes: &[u8], at: usize) -> Option<(usize, usize)>
     requires { at ≤ length bytes.now }
     ensures { PartIs bytes.now at result }
 {
     if bytes.len() - at < 4 {
-        return Part::Cut;
+        return None;
     }
     let length = u32_at(bytes, at) as usize;
     let start = at + 4;
     if bytes.len() - start < length {
-        return Part::Cut;
+        return None;
     }
-    Part::Found(start, start + length)
+    Some((start, start + length))
 }
 
 // 1 where a script gives another answer, else 0.
@@ -44,26 +37,23 @@ fn difference(script: &[u8], answer: &[u8]) -> u64
     1
 }
 
-// Runs every script of a sample.
-pub fn compare(bytes: &[u8]) -> Tally
+// Runs every script of a sample, unless that is cut short.
+pub fn compare(bytes: &[u8]) -> Option<Tally>
     ensures { Tallied bytes.now result }
 {
     let mut at = 0;
     let mut scripts: u64 = 0;
     let mut differences: u64 = 0;
+    // Kept: the length of each part says where the next one starts, so there is nothing to count.
     while at < bytes.len() {
-        let script = part_at(bytes, at);
-        let Part::Found(from, to) = script else {
-            return Tally::Cut;
-        };
-        let answer = part_at(bytes, to);
-        let Part::Found(start, end) = answer else {
-            return Tally::Cut;
-        };
-        let more = difference(&bytes[from..to], &bytes[start..end]);
+        let (from, to) = part_at(bytes, at)?;
+        let (start, end) = part_at(bytes, to)?;
         scripts += 1;
-        differences += more;
+        differences += difference(&bytes[from..to], &bytes[start..end]);
         at = end;
     }
-    Tally::Whole(scripts, differences)
+    Some(Tally {
+        scripts,
+        differences,
+    })
 }

@@ -1,5 +1,5 @@
 -- Where a script leads, step by step and with no bound on the steps: to the words of `run_of`, and to no others. Nothing here has to be believed.
-use Rattle.std.specs.Prelude.{◌≡◌, refl, List, ◌++◌, ℕ, zero, suc, ◌-◌, ◌<◌, length}
+use Rattle.std.specs.Prelude.{◌≡◌, List, ◌++◌, ℕ, zero, suc, ◌-◌, ◌<◌, length}
 use Rattle.std.proofs.Common.{sym, ap, ◌∙◌, arith}
 use Rattle.lines.specs.Lines.{end_line}
 use Rattle.setreplies.specs.Replies.{Lent, Printed}

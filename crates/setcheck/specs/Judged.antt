@@ -1,5 +1,5 @@
 -- What the check of a set says of a config and of the set, and what it keeps from config to config. Nothing here has to be believed.
-use Rattle.std.specs.Prelude.{◌≡◌, refl, Bool, true, false, List, ℕ, suc, ◌<◌, ◌≤◌, ◌+◌, length, get_or}
+use Rattle.std.specs.Prelude.{◌≡◌, refl, Bool, true, false, List, ℕ, suc, ◌<◌, ◌≤◌, ◌+◌, length, get_or, Option, Some, None}
 use Rattle.std.proofs.Common.{sym, ap, ◌∙◌, arith}
 use Rattle.words.specs.Numbers.{two}
 use Rattle.layout.specs.Store.{at, nowhere}
@@ -14,8 +14,6 @@ use Rattle.sets.specs.Chains.{last, last_found, last_none, linked_length, linked
 use Rattle.sets.specs.Words.{bit, flags_of, configs_in, SoundSet}
 use Rattle.setcheck.specs.Flags.{joined_flags, joined_more}
 use Rattle.setcheck.specs.Keys.{key_heads, key_links, key_bucket, has_key, put_key, Keyed, SoughtKey}
-use Rattle.setcheck.specs.declared.inner.check.Checked.{Checked}
-use Rattle.setcheck.specs.declared.inner.check.Checked.TheVariants.{Flags, Bad}
 
 -- the store's index, which stands below the chains of keys, is as it was
 abbrev pub SameIndex : List ℕ → List ℕ → Type 0
@@ -43,9 +41,9 @@ pub record Gathered (v z : List ℕ) (k n f : ℕ) (u : List ℕ) : Type 0 where
   pub index : SameIndex z u
   pub flags : f ≡ flags_of (with_configs (empty_set false) (configs_in v n))
 
-abbrev pub JudgedConfigs : List ℕ → List ℕ → ℕ → ℕ → Checked → List ℕ → Type 0
-JudgedConfigs v z k n (Flags f) u = Gathered v z k n f u
-JudgedConfigs v z k n Bad u = (((i : ℕ) → i < n → GoodConfig v k i) → ⊥) × (length u ≡ scratch_words)
+abbrev pub JudgedConfigs : List ℕ → List ℕ → ℕ → ℕ → Option ℕ → List ℕ → Type 0
+JudgedConfigs v z k n (Some f) u = Gathered v z k n f u
+JudgedConfigs v z k n None u = (((i : ℕ) → i < n → GoodConfig v k i) → ⊥) × (length u ≡ scratch_words)
 
 -- the verdict on a set, with a store of k contexts
 abbrev pub SetVerdict : List ℕ → List ℕ → ℕ → Bool → List ℕ → Type 0

@@ -1,6 +1,6 @@
 -- What a call on a set may rely on once lengths, store and set are checked. Nothing here has to be believed.
 use Rattle.std.proofs.Math.Path.{◌≡◌, ap}
-use Rattle.std.specs.Prelude.{refl, Bool, true, false, ◌&&◌, List, [], ℕ, eqb, length, replicate}
+use Rattle.std.specs.Prelude.{refl, Bool, true, false, ◌&&◌, List, [], ℕ, eqb, length, replicate, Result, Ok, Err}
 use Rattle.std.proofs.Common.{sym, ◌∙◌, eq-eqb, ne_eqb}
 use Rattle.std.proofs.Math.Bool.{and-false}
 use native.Mathlib.Omega.{arith}
@@ -16,8 +16,6 @@ use Rattle.store.specs.Check.{Ready}
 use Rattle.store.specs.Calls.{none, Left, zeros, refused as notSet, leaves}
 use Rattle.store.specs.Nested.{if_lengths, if_sound, checked}
 use Rattle.store.specs.Admit.{Opened, cleared}
-use Rattle.store.specs.declared.inner.admit.Admitted.{Admitted}
-use Rattle.store.specs.declared.inner.admit.Admitted.TheVariants.{Ready as ready, Refused}
 use Rattle.words.specs.Bools.{bool?}
 use Rattle.sets.specs.Layout.{set_words_length, config_count}
 use Rattle.sets.specs.Words.{SoundSet}
@@ -34,9 +32,9 @@ pub record ReadySet (w v u : List ℕ) : Type 0 where
   pub sound : SoundSet (contexts w) v
   pub keys : Keyed v (config_count v) u
 
-abbrev pub OpenedSet : List ℕ → List ℕ → List ℕ → Admitted → List ℕ → Type 0
-OpenedSet w v z ready u = ReadySet w v u × Clear (lent_checks (lent_lengths w v z) w v [])
-OpenedSet w v z (Refused f) u = Due (number f) (lent_checks (lent_lengths w v z) w v []) × (refusal w v z (number f) ≡ set_left (refused (number f)) w v u)
+abbrev pub OpenedSet : List ℕ → List ℕ → List ℕ → Result Unit Refusal → List ℕ → Type 0
+OpenedSet w v z (Ok _) u = ReadySet w v u × Clear (lent_checks (lent_lengths w v z) w v [])
+OpenedSet w v z (Err f) u = Due (number f) (lent_checks (lent_lengths w v z) w v []) × (refusal w v z (number f) ≡ set_left (refused (number f)) w v u)
 
 -- ---- what the check of the store says of lengths and soundness
 
@@ -71,14 +69,14 @@ module _ (w z u : List ℕ) where
   unfolding other
   not_other n x e = let q : notSet n ≡ none = ap (λ (l : Left). l.reply) e in let k : ◌≡◌ {A = ℕ} 0 1 = cc in omega arith
 
-  pub ready_lengths : Opened w z ready u → (store_lengths w z ≡ true) × (sound w ≡ true)
+  pub ready_lengths : Opened {A = Unit} w z (Ok tt) u → (store_lengths w z ≡ true) × (sound w ≡ true)
   ready_lengths o =
       bool? (store_lengths w z)
       (λ e. bool? (sound w) (λ f. (e, f)) (λ f. absurd (not_other 1 zeros (sym (checked_unsound w z other e f) ∙ o.1 other))))
       (λ e. absurd (not_other 2 z (sym (checked_short w z other e) ∙ o.1 other)))
 
   -- a refusal of the store: 2 with the scratch as it was, or 1 with the scratch cleared
-  pub refused_lengths {ℓ} : {X : Type ℓ} (f : Refusal) → Opened w z (Refused f) u
+  pub refused_lengths {ℓ} : {X : Type ℓ} (f : Refusal) → Opened {A = Unit} w z (Err f) u
       → (store_lengths w z ≡ false → number f ≡ 2 → u ≡ z → X)
       → (store_lengths w z ≡ true → sound w ≡ false → number f ≡ 1 → u ≡ zeros → X)
       → X
@@ -92,30 +90,40 @@ module _ (w z u : List ℕ) where
 -- ---- the set's length beside them
 
 module _ (w v z : List ℕ) where
-  pub short_set : (length v ≡ set_words_length → ⊥) → OpenedSet w v z (Refused WrongLength) z
+  pub short_set : (length v ≡ set_words_length → ⊥) → OpenedSet w v z (Err WrongLength) z
   unfolding lent_checks lent_lengths refusal
   short_set n = (rw (ne_eqb (length v) set_words_length n, and-false (eqb (length w) store_words)), refl)
+
+  -- a wrong length beside it, told before the set is opened
+  pub short_lent_store : (length w ≡ store_words → ⊥) → OpenedSet w v z (Err WrongLength) z
+  unfolding lent_checks lent_lengths refusal
+  short_lent_store n = (rw (ne_eqb (length w) store_words n), refl)
+
+  pub short_lent_scratch : (length z ≡ scratch_words → ⊥) → OpenedSet w v z (Err WrongLength) z
+  unfolding lent_checks lent_lengths refusal
+  short_lent_scratch n =
+      (rw (ne_eqb (length z) scratch_words n, and-false (eqb (length v) set_words_length), and-false (eqb (length w) store_words)), refl)
 
   module _ (l : length v ≡ set_words_length) where
     lent_lengths_lem : lent_lengths w v z ≡ store_lengths w z
     unfolding lent_lengths
     lent_lengths_lem = rw (eq-eqb (length v) set_words_length l)
 
-    pub refused_store : (f : Refusal) (u : List ℕ) → Opened w z (Refused f) u → OpenedSet w v z (Refused f) u
+    pub refused_store : (f : Refusal) (u : List ℕ) → Opened {A = Unit} w z (Err f) u → OpenedSet w v z (Err f) u
     unfolding lent_checks refusal
     refused_store f u o =
         refused_lengths w z u f o
         (λ e n q. rw (n, q, lent_lengths_lem, e) (refl, refl))
         (λ e g n q. rw (n, q, lent_lengths_lem, e, g) ((refl, refl), refl))
 
-    module _ (y u : List ℕ) (o : Opened w z ready y) where
-      pub unsound_set : SetVerdict v y (contexts w) false u → (x : List ℕ) → x ≡ replicate (length u) 0 → OpenedSet w v z (Refused UnsoundSet) x
+    module _ (y u : List ℕ) (o : Opened {A = Unit} w z (Ok tt) y) where
+      pub unsound_set : SetVerdict v y (contexts w) false u → (x : List ℕ) → x ≡ replicate (length u) 0 → OpenedSet w v z (Err UnsoundSet) x
       unfolding lent_checks refusal
       unsound_set s x e =
           let r = ready_lengths w z y o in
           rw (lent_lengths_lem, r.0, r.1, sound_set_false (contexts w) v s.0, e, cleared u s.1) ((refl, (refl, refl)), refl)
 
-      pub ready_set : SetVerdict v y (contexts w) true u → OpenedSet w v z ready u
+      pub ready_set : SetVerdict v y (contexts w) true u → OpenedSet w v z (Ok tt) u
       unfolding lent_checks
       ready_set s =
           let r = ready_lengths w z y o in

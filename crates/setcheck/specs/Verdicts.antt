@@ -1,5 +1,5 @@
 -- From the judgements of the configs to the verdict on the set, and back. Nothing here has to be believed.
-use Rattle.std.specs.Prelude.{◌≡◌, refl, Bool, true, false, List, ℕ, ◌<◌, ◌≤◌, ◌+◌, ◌*◌, ◌/◌, ◌%◌, eqb, length}
+use Rattle.std.specs.Prelude.{◌≡◌, refl, Bool, true, false, List, ℕ, ◌<◌, ◌≤◌, ◌+◌, ◌*◌, ◌/◌, ◌%◌, eqb, length, Option, Some, None}
 use Rattle.std.proofs.Math.Path.{sym, ap}
 use Rattle.std.proofs.Common.{◌∙◌, arith}
 use Rattle.std.specs.Int.Bits.{bit_and}
@@ -16,8 +16,6 @@ use Rattle.sets.proofs.Sound.{semantic_at, at_semantic, dips_at, at_dips, sound_
 use Rattle.sets.specs.Chains.{chain_empty}
 use Rattle.setcheck.specs.Keys.{key_heads, key_links, Keyed}
 use Rattle.setcheck.specs.Judged.{SameIndex, GoodConfig, PassedConfigs, Gathered, JudgedConfigs, SetVerdict}
-use Rattle.setcheck.specs.declared.inner.check.Checked.{Checked}
-use Rattle.setcheck.specs.declared.inner.check.Checked.TheVariants.{Flags, Bad}
 
 -- ---- empty chains
 
@@ -88,11 +86,11 @@ verdict_if v z u k false is isnt l c i = (isnt refl, l)
 -- ---- the whole check
 
 module _ (v z : List ℕ) (k : ℕ) (lv : length v ≡ set_words_length) (lz : length z ≡ scratch_words) (y : List ℕ) (e : y ≡ cleared_range z key_heads key_links)
-    (n : ℕ) (counted : n ≡ config_count v) (few : n ≤ most_configs) (u : List ℕ) (r : Checked) (j : JudgedConfigs v y k n r u) where
-  pub bad_verdict : r ≡ Bad → SetVerdict v z k false u
+    (n : ℕ) (counted : n ≡ config_count v) (few : n ≤ most_configs) (u : List ℕ) (r : Option ℕ) (j : JudgedConfigs v y k n r u) where
+  pub bad_verdict : r ≡ None → SetVerdict v z k false u
   bad_verdict q = let bad = rw q at j in (λ s. bad.0 (λ i l. sound_configs k v s i (rw counted at l)), bad.1)
 
-  module _ (f : ℕ) (q : r ≡ Flags f) where
+  module _ (f : ℕ) (q : r ≡ Some f) where
     gathered : Gathered v y k (config_count v) f u
     gathered = rw counted at (rw q at j)
 

@@ -9,7 +9,8 @@ use Rattle.format.specs.Bytes.{u32_at, words_at}
 use Rattle.format.specs.Bytes.Laws.{length_words, words_more}
 use Rattle.lines.specs.Laid.{laid, Wrote}
 use Rattle.lines.specs.Laid.Laws.{laid_append, laid_one, laid_none}
-use Rattle.lines.specs.Lines.{number_line, refusal_line, stops_line}
+use Rattle.lines.specs.Lines.{spaced_all, refusal_line, stops_line}
+use Rattle.lines.specs.Spread.{line_one}
 use Rattle.replies.specs.Replies.{stop_words, stops_call}
 
 -- the list's words before the first state is held, and after some
@@ -54,11 +55,11 @@ held_all s p n t h e =
 -- ---- the call
 
 module _ (b : List ℕ) (r : ℕ) (u t xs : List ℕ) where
-  pub too_many : most_stops < length xs → Wrote b 0 (number_line 82 10) r u → Wrote b 0 (stops_call t xs).0 r u × (t ≡ (stops_call t xs).1)
-  unfolding stops_call unless refusal_line
+  pub too_many : most_stops < length xs → Wrote b 0 (refusal_line 10) r u → Wrote b 0 (stops_call t xs).0 r u × (t ≡ (stops_call t xs).1)
+  unfolding stops_call unless
   too_many h v = rw (lt-ltb most_stops (length xs) h, unless) (v, refl)
 
-  pub held_call : (n : ℕ) (t' : List ℕ) → length xs ≡ n → n ≤ most_stops → t' ≡ stop_words xs → Wrote b 0 (number_line 83 n) r u
+  pub held_call : (n : ℕ) (t' : List ℕ) → length xs ≡ n → n ≤ most_stops → t' ≡ stop_words xs → Wrote b 0 (83 ∷ spaced_all (n ∷ []) ++ 10 ∷ []) r u
       → Wrote b 0 (stops_call t xs).0 r u × (t' ≡ (stops_call t xs).1)
   unfolding stops_call unless stops_line
-  held_call n t' l h e v = rw (le-ltb most_stops (length xs) (omega arith), unless) (rw (← l) at v, e)
+  held_call n t' l h e v = rw (le-ltb most_stops (length xs) (omega arith), unless) (rw (line_one 83 n, ← l) at v, e)

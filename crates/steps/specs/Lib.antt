@@ -4,6 +4,7 @@ pub mod Steps
 pub mod Answers
 pub mod ContextsMade
 pub mod Made
+pub mod Lent
 pub mod Determined
 pub use Rattle.configs.specs.MergeCall
 pub use Rattle.format.specs.Bytes

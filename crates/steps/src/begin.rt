@@ -4,8 +4,8 @@ ghost use Rattle.replies.specs.Replies.{lent};
 ghost use Rattle.steps.specs.Steps.{fresh};
 
 use layout::{SCRATCH_WORDS, STORE_WORDS};
+use replies::inner::stops::STOP_WORDS;
 use setcheck::inner::places::SET_WORDS;
-use setreplies::inner::stops::STOP_WORDS;
 
 // Makes a fresh store, an empty full-context set and no stop states, over any earlier contents.
 pub fn start(
@@ -16,8 +16,9 @@ pub fn start(
 )
     ensures { lent store.new set.new stops.new scratch.new ≡ fresh }
 {
-    store::fresh(store);
-    configs::fresh_set(set, true);
+    // Neither is refused: these words have the right lengths.
+    let _ = store::fresh(store);
+    let _ = configs::fresh_set(set, true);
     words::clear(stops);
     words::clear(scratch);
 }

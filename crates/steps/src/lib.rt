@@ -2,9 +2,11 @@
 #![tactic(auto)]
 
 mod begin;
+mod room;
 mod run;
 
 pub use begin::start;
+pub use replies::inner::stops::STOP_WORDS;
+pub use room::Room;
 pub use run::{MOST_BYTES, Ran, run_step};
 pub use setcheck::inner::places::SET_WORDS;
-pub use setreplies::inner::stops::STOP_WORDS;

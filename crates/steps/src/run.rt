@@ -9,15 +9,16 @@ ghost use Rattle.steps.specs.Steps.{step_of};
 use calls::inner::run::run_record;
 use format::{Step, decode};
 use lines::LINE_BYTES;
-use lines::inner::numbers::lay_number;
+use lines::inner::numbers::lay_refusal;
 use replies::inner::calls::wipe;
-use setreplies::inner::stops::STOP_WORDS;
+use replies::inner::stops::STOP_WORDS;
 use words::Refusal;
 
 // Bytes that a script may have at most.
 pub const MOST_BYTES: usize = 32768;
 
 // A step laid out so many bytes, and the script goes on at a place; or it is over.
+// Kept: each of the two says what was laid out, so that neither is an Err or a None.
 #[derive(Clone, Copy)]
 pub enum Ran {
     Next(usize, usize),
@@ -30,10 +31,11 @@ fn refuse(scratch: &mut [u32], out: &mut [u8; LINE_BYTES]) -> usize
     ensures scratch_after { scratch.new ≡ wiped scratch.old }
 {
     wipe(scratch);
-    lay_number(out, b'R', words::refusal_number(Refusal::MalformedRecord))
+    lay_refusal(out, Refusal::MalformedRecord)
 }
 
 // Runs the record at a place of a script. The reply stands at the start of `out`.
+// Kept without `Room`: it takes words of any length, and a wrong length is refused.
 pub fn run_step(
     bytes: &[u8],
     at: usize,
@@ -51,8 +53,7 @@ pub fn run_step(
     if MOST_BYTES < bytes.len() {
         return Ran::Over(refuse(scratch, out));
     }
-    let step = decode(bytes, at);
-    match step {
+    match decode(bytes, at) {
         Step::Found(call, next) => {
             Ran::Next(
                 run_record(call, bytes, store, set, stops, scratch, out),

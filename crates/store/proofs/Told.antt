@@ -15,8 +15,7 @@ use Rattle.layout.specs.Layout.{store_words}
 use Rattle.store.proofs.FreshWords.{fresh_words, fresh_refused}
 use Rattle.store.specs.Calls.{Reply, refused, done, fresh_call}
 use Rattle.store.specs.Renewed.{renewed}
-use Rattle.store.specs.declared.renew.Renewed.{Renewed}
-use Rattle.store.specs.declared.renew.Renewed.TheVariants.{Done, Refused}
+use Rattle.std.specs.Prelude.{Result, Ok, Err}
 
 -- by number from 0 on; 0 and 11 are none's
 refusals : List Refusal
@@ -46,13 +45,13 @@ number_tells f g e =
 -- ---- a fresh store
 
 -- two outcomes of `fresh` that satisfy its contract for the same words are equal
-renewed_tells : (a b : Renewed) → renewed a ≡ renewed b → a ≡ b
-renewed_tells Done Done e = refl
-renewed_tells Done (Refused g) e = cc
-renewed_tells (Refused f) Done e = cc
-renewed_tells (Refused f) (Refused g) e = ap Refused (number_tells f g e)
+renewed_tells : (a b : Result Unit Refusal) → renewed a ≡ renewed b → a ≡ b
+renewed_tells (Ok _) (Ok _) e = refl
+renewed_tells (Ok _) (Err g) e = cc
+renewed_tells (Err f) (Ok _) e = cc
+renewed_tells (Err f) (Err g) e = ap Err (number_tells f g e)
 
-pub fresh_determined : (w : List ℕ) (a b : Renewed) (u v : List ℕ) → (renewed a, u) ≡ fresh_call w → (renewed b, v) ≡ fresh_call w → (a ≡ b) × (u ≡ v)
+pub fresh_determined : (w : List ℕ) (a b : Result Unit Refusal) (u v : List ℕ) → (renewed a, u) ≡ fresh_call w → (renewed b, v) ≡ fresh_call w → (a ≡ b) × (u ≡ v)
 fresh_determined w a b u v p q =
     let e : ◌≡◌ {A = Reply × List ℕ} (renewed a, u) (renewed b, v) = p ∙ sym q in
     (renewed_tells a b (ap (λ (x : Reply × List ℕ). x.0) e), ap (λ (x : Reply × List ℕ). x.1) e)

@@ -1,7 +1,7 @@
 -- What the checks leave to a call that only reads: a known context and a cleared scratch, or the refusal, whatever the reply would have been.
 -- Nothing here has to be believed.
-use Rattle.std.specs.Prelude.{◌≡◌, ◌↔◌, List, ℕ, ◌<◌, length, replicate}
-use Rattle.std.proofs.Common.{sym, ◌∙◌, arith}
+use Rattle.std.specs.Prelude.{◌≡◌, ◌↔◌, List, ℕ, ◌<◌, length, replicate, Result, Ok, Err, IsOk}
+use Rattle.std.proofs.Common.{sym, ◌∙◌}
 use Rattle.words.specs.declared.refusals.Refusal.{Refusal}
 use Rattle.words.specs.Refusals.{number}
 use Rattle.layout.specs.Store.{at}
@@ -12,8 +12,6 @@ use Rattle.store.specs.Checks.{due}
 use Rattle.store.specs.Calls.Laws.{refused_exactly, refused_leaves}
 use Rattle.store.specs.Calls.{Reply, refused, leaves, zeros, kept, refusal, ask_checks, asked}
 use Rattle.store.specs.Admit.{Admits, cleared}
-use Rattle.store.specs.declared.inner.admit.Admitted.{Admitted}
-use Rattle.store.specs.declared.inner.admit.Admitted.TheVariants.{Ready as ready, Refused}
 
 -- the words are sound, and c is one of their contexts
 pub record Known (w : List ℕ) (c : ℕ) : Type 0 where
@@ -21,21 +19,17 @@ pub record Known (w : List ℕ) (c : ℕ) : Type 0 where
   pub sound : SoundWords w
   pub below : c < count w
 
--- the words w and z at entry, the context's number c, what the checks answered, the scratch v afterwards
-pub record Asks (w z : List ℕ) (c : ℕ) (a : Admitted) (v : List ℕ) : Type 0 where
-  pub known : a ≡ ready → Known w c
-  pub replies : a ≡ ready → (r : Reply) → leaves r w v ≡ asked w z c r
-  pub refuses : (f : Refusal) → a ≡ Refused f → (r : Reply) → leaves (refused (number f)) w v ≡ asked w z c r
+-- the words w and z at entry, the context's number c, what the checks answered, with whatever they hand on, the scratch v afterwards
+pub record Asks {A : Type 0} (w z : List ℕ) (c : ℕ) (a : Result A Refusal) (v : List ℕ) : Type 0 where
+  pub known : IsOk a → Known w c
+  pub replies : IsOk a → (r : Reply) → leaves r w v ≡ asked w z c r
+  pub refuses : (f : Refusal) → a ≡ Err f → (r : Reply) → leaves (refused (number f)) w v ≡ asked w z c r
 
 -- ---- from what `admit` answered; u is the scratch after it
 
-not_both : (a : Admitted) (f : Refusal) → a ≡ Refused f → a ≡ ready → ⊥
-not_both a f e g = let z : ◌≡◌ {A = ℕ} 0 1 = cc in omega arith
-
-module _ (w z : List ℕ) (c : ℕ) (u : List ℕ) (a : Admitted) (s : Admits w z c a u) where
-  pub asks_known : a ≡ ready → (v : List ℕ) → v ≡ replicate (length u) 0 → Asks w z c ready v
-  asks_known e v f =
-      let passed : Admits w z c ready u = rw e at s in
+module _ {A : Type 0} (w z : List ℕ) (c : ℕ) where
+  pub asks_known : (x : A) (u v : List ℕ) → Admits w z c (Ok tt) u → v ≡ replicate (length u) 0 → Asks w z c (Ok x) v
+  asks_known x u v passed f =
       let zero : v ≡ zeros = f ∙ cleared u passed.0.index.sized in
       record {
         known = λ _. record { sized = passed.0.sized; sound = passed.0.sound; below = passed.1 };
@@ -43,12 +37,12 @@ module _ (w z : List ℕ) (c : ℕ) (u : List ℕ) (a : Admitted) (s : Admits w 
         refuses = λ f e r. cc;
       }
 
-  pub asks_refused : (f : Refusal) → a ≡ Refused f → Asks w z c a u
-  asks_refused f e =
+  pub asks_refused : (f : Refusal) (u : List ℕ) → Admits w z c (Err f) u → Asks {A = A} w z c (Err f) u
+  asks_refused f u s =
       record {
-        known = λ g. absurd (not_both a f e g);
-        replies = λ g. absurd (not_both a f e g);
-        refuses = λ h g r. sym (asked_nested w z c r ∙ (rw g at s) (kept r w));
+        known = λ g. cc;
+        replies = λ g. cc;
+        refuses = λ h g r. let e : h ≡ f = cc in rw e (sym (asked_nested w z c r ∙ s (kept r w)));
       }
 
 -- ---- refused exactly when, and with nothing changed

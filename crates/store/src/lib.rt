@@ -4,4 +4,4 @@
 pub mod inner;
 mod renew;
 
-pub use renew::{Renewed, fresh};
+pub use renew::fresh;

@@ -3,24 +3,15 @@ ghost use Rattle.std.specs.Prelude.{◌≡◌};
 ghost use Rattle.store.specs.Calls.{fresh_call};
 ghost use Rattle.store.specs.Renewed.{renewed};
 
-use layout::STORE_WORDS;
+use layout::StoreWords;
 use words::Refusal;
 
-// What making a store afresh answers.
-#[derive(Clone, Copy)]
-pub enum Renewed {
-    Done,
-    Refused(Refusal),
-}
-
 // Makes the lent words a store of context 0 alone.
-pub fn fresh(store: &mut [u32]) -> Renewed
+pub fn fresh(store: &mut [u32]) -> Result<(), Refusal>
     ensures { (renewed result, store.new) ≡ fresh_call store.old }
 {
-    if store.len() != STORE_WORDS {
-        return Renewed::Refused(Refusal::WrongLength);
-    }
+    let store: &mut StoreWords = store.as_mut_array().ok_or(Refusal::WrongLength)?;
     words::clear(store);
     store[0] = 1;
-    Renewed::Done
+    Ok(())
 }

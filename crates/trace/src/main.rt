@@ -2,15 +2,14 @@
 // end line.
 #![tactic(auto)]
 
-ghost use Rattle.std.specs.Prelude.{◌≤◌, length, IfOk, IsOk, IsTrue, ◌↔◌};
-ghost use Rattle.steps.specs.Replies.{lent};
+ghost use Rattle.std.specs.Prelude.{◌≡◌, ◌≤◌, length, IfOk};
+ghost use Rattle.steps.specs.Lent.{lent_of};
+ghost use Rattle.steps.specs.Steps.{fresh};
 ghost use Rattle.trace.specs.Traced.{Traced};
 
-use layout::{SCRATCH_WORDS, STORE_WORDS};
-use lines::LINE_BYTES;
 use std::io;
 use std::io::Read;
-use steps::{MOST_BYTES, Ran, SET_WORDS, STOP_WORDS};
+use steps::{MOST_BYTES, Ran, Room};
 
 // Writes the reply that stands at the start of `out`. Where that fails, it says so.
 fn write_reply(rt: &(impl Print + Eprint), out: &[u8], wrote: usize) -> bool
@@ -23,36 +22,27 @@ fn write_reply(rt: &(impl Print + Eprint), out: &[u8], wrote: usize) -> bool
     false
 }
 
-// Runs a script from the start: each reply is written as it comes, then the end line. False where a
-// write failed: there it stops.
-fn run_script(
-    rt: &(impl Print + Eprint),
-    bytes: &[u8],
-    store: &mut [u32; STORE_WORDS],
-    set: &mut [u32; SET_WORDS],
-    stops: &mut [u32; STOP_WORDS],
-    scratch: &mut [u32; SCRATCH_WORDS],
-    out: &mut [u8; LINE_BYTES],
-) -> bool
-    ensures { Traced bytes.now result (lent store.new set.new stops.new scratch.new) }
+// Runs a script from the start, in a fresh room: each reply is written as it comes, then the end line.
+// False where a write failed: there it stops.
+fn run_script(rt: &(impl Print + Eprint), bytes: &[u8], room: &mut Room) -> bool
+    requires { lent_of room.old ≡ fresh }
+    ensures { Traced bytes.now result (lent_of room.new) }
 {
-    steps::start(store, set, stops, scratch);
     let mut at = 0;
     loop {
-        let ran = steps::run_step(bytes, at, store, set, stops, scratch, out);
-        match ran {
+        match room.step(bytes, at) {
             Ran::Next(wrote, next) => {
-                if !write_reply(rt, out, wrote) {
+                if !write_reply(rt, &room.out, wrote) {
                     return false;
                 }
                 at = next;
             }
             Ran::Over(wrote) => {
-                if !write_reply(rt, out, wrote) {
+                if !write_reply(rt, &room.out, wrote) {
                     return false;
                 }
-                let last = lines::lay_end(out, store);
-                return write_reply(rt, out, last);
+                let last = lines::lay_end(&mut room.out, &room.store);
+                return write_reply(rt, &room.out, last);
             }
         }
     }
@@ -60,6 +50,7 @@ fn run_script(
 
 // Reads until `buf` is full or the input ends, and returns how many bytes it put at the start of
 // `buf`. A read that a signal interrupts counts as one that failed.
+// Kept by hand: the library's reads to the end want a heap, or retry such a read.
 fn read_full(input: &mut impl Read, buf: &mut [u8]) -> io::Result<usize>
     ensures { IfOk result (λ n. n ≤ length buf.new) }
 {
@@ -74,36 +65,16 @@ fn read_full(input: &mut impl Read, buf: &mut [u8]) -> io::Result<usize>
     Ok(done)
 }
 
-// Was all of the input read? Where a read failed, it says so.
-fn was_read(rt: &impl Eprint, read: &io::Result<usize>) -> bool
-    ensures { IsTrue result ↔ IsOk read.now }
-{
-    if read.is_err() {
-        let _ = rt.eprintln("trace: standard input cannot be read");
-        return false;
-    }
-    true
-}
-
 // One byte more than a script may have is enough to see that it is overlong.
 fn main(rt: HostRuntime) {
     let mut input = [0u8; MOST_BYTES + 1];
-    let mut store = [0u32; STORE_WORDS];
-    let mut set = [0u32; SET_WORDS];
-    let mut stops = [0u32; STOP_WORDS];
-    let mut scratch = [0u32; SCRATCH_WORDS];
-    let mut out = [0u8; LINE_BYTES];
-    let read = read_full(&mut rt.stdin(), &mut input);
-    if was_read(&rt, &read) {
-        let n = read.unwrap();
-        run_script(
-            &rt,
-            &input[..n],
-            &mut store,
-            &mut set,
-            &mut stops,
-            &mut scratch,
-            &mut out,
-        );
+    let mut room = Room::new();
+    match read_full(&mut rt.stdin(), &mut input) {
+        Ok(n) => {
+            run_script(&rt, &input[..n], &mut room);
+        }
+        Err(_) => {
+            let _ = rt.eprintln("trace: standard input cannot be read");
+        }
     }
 }

@@ -1,21 +1,20 @@
 -- The figures of the set: what is laid out and left, from what the parts leave. Nothing here has to be believed.
-use Rattle.std.specs.Prelude.{◌≡◌, Bool, ℕ, ◌+◌, ◌-◌, ◌<◌, ◌≤◌, length, get_or, take, drop}
+use Rattle.std.specs.Prelude.{◌≡◌, Bool, ℕ, ◌+◌, ◌-◌, ◌<◌, ◌≤◌, min, length, get_or, take, drop}
 use Rattle.std.proofs.Math.Path.{refl}
 use Rattle.std.proofs.Common.{sym, ap, ◌∙◌, arith, length-drop, take_all}
 use mathlib.Core.List.{List, [], ◌∷◌}
+use Rattle.words.specs.Numbers.{below?}
 use Rattle.words.specs.Refusals.{number}
 use Rattle.words.specs.declared.refusals.Refusal.{Refusal}
 use Rattle.lines.specs.Answers.{Answer}
-use Rattle.figures.specs.VerdictsCalls.{VerdictLeft, verdict_left, summary}
+use Rattle.figures.specs.VerdictsCalls.{VerdictLeft, verdict_left, refused, summary}
 use Rattle.figures.specs.Calls.{figures_call}
-use Rattle.figures.specs.Replies.{told, summary_of}
+use Rattle.figures.specs.Replies.{summary_of}
 use Rattle.figures.specs.declared.answers.Figures.{Figures}
-use Rattle.figures.specs.declared.answers.Told.{Told as ToldOf}
-use Rattle.figures.specs.declared.answers.Told.TheVariants.{All, Refused}
 use Rattle.lines.specs.Decimal.Laws.{word_digits}
 use Rattle.lines.specs.Laid.{Wrote}
 use Rattle.lines.specs.Laid.Laws.{wrote_then, wrote_length}
-use Rattle.lines.specs.Lines.{line_bytes, spaced, alternative_bytes, verdict_bytes, number_line, refusal_line, figures_line}
+use Rattle.lines.specs.Lines.{line_bytes, spaced, alternative_bytes, verdict_bytes, refusal_line, figures_line}
 use Rattle.replies.specs.Replies.{Lent, lent, held_stops, verdict_line_of, on_verdict}
 use Rattle.replies.specs.Replies.Laws.{Answered}
 
@@ -65,8 +64,15 @@ figures_line_lem b n x y t v₁ v₂ v₃ v₄ v₅ v₆ =
 
 -- ---- the states held
 
-abbrev pub stop_length : ℕ
-stop_length = 65
+-- words whose first says how many of the others there are
+pub held_words : (t s : List ℕ) (e : ℕ) → e ≡ min (1 + get_or t 0 0) (length t) → s ≡ take (e - 1) (drop 1 t) → s ≡ take (get_or t 0 0) (drop 1 t)
+held_words t s e q h =
+    below? (get_or t 0 0) (length t)
+    (λ l. let f : e - 1 ≡ get_or t 0 0 = omega arith in h ∙ ap (λ (n : ℕ). take n (drop 1 t)) f)
+    (λ l.
+    let f : length (drop 1 t) ≤ e - 1 = omega (arith, length-drop 1 t) in
+    let g : length (drop 1 t) ≤ get_or t 0 0 = omega (arith, length-drop 1 t) in
+    h ∙ take_all (e - 1) (drop 1 t) f ∙ sym (take_all (get_or t 0 0) (drop 1 t) g))
 
 -- words whose first says how many of the others there are
 module _ (t : List ℕ) where
@@ -84,14 +90,12 @@ held_stops_lem t s e = e
 
 -- ---- the call, with states that are those held
 
-module _ (b w v y s t : List ℕ) (a : ToldOf) (r : ℕ) (u z : List ℕ) (c : verdict_left (told a) z [] ≡ figures_call w v y s) (h : s ≡ t) where
-  pub told_all : (f : Figures) → a ≡ All f → Wrote b 0 (verdict_line_of (summary (summary_of f))) r u → Told b (figures_call w v y t) r u z
-  told_all f q p =
-      let g : verdict_left (told (All f)) z [] ≡ figures_call w v y t = rw (q, h) at c in
-      rw (← g) (record { wrote = p; scratch = refl })
+module _ (b w v y s t : List ℕ) (r : ℕ) (u z : List ℕ) (h : s ≡ held_stops t) where
+  pub told_all : (f : Figures) → verdict_left (summary (summary_of f)) z [] ≡ figures_call w v y s → Wrote b 0 (verdict_line_of (summary (summary_of f))) r u
+      → Told b (figures_call w v y (held_stops t)) r u z
+  told_all f c p = rw (← h, ← c) (record { wrote = p; scratch = refl })
 
-  pub told_refused : (f : Refusal) → a ≡ Refused f → (n : ℕ) → n ≡ number f → Wrote b 0 (number_line 82 n) r u → Told b (figures_call w v y t) r u z
-  unfolding verdict_line_of refusal_line
-  told_refused f q n m p =
-      let g : verdict_left (told (Refused f)) z [] ≡ figures_call w v y t = rw (q, h) at c in
-      rw (← g) (record { wrote = rw m at p; scratch = refl })
+  pub told_refused : (f : Refusal) → verdict_left (refused (number f)) z [] ≡ figures_call w v y s → Wrote b 0 (refusal_line (number f)) r u
+      → Told b (figures_call w v y (held_stops t)) r u z
+  unfolding verdict_line_of
+  told_refused f c p = rw (← h, ← c) (record { wrote = p; scratch = refl })

@@ -1,5 +1,5 @@
 -- What a call leaves once `open_set` has answered. Nothing here has to be believed.
-use Rattle.std.specs.Prelude.{◌≡◌, Bool, true, false, ◌&&◌, ℕ, eqb, length, replicate}
+use Rattle.std.specs.Prelude.{◌≡◌, Bool, true, false, ◌&&◌, ℕ, eqb, length, replicate, Ok, Err}
 use Rattle.std.proofs.Math.Path.{sym, ap}
 use Rattle.std.proofs.Common.{◌∙◌, eq-eqb, ne_eqb}
 use Rattle.std.proofs.Math.Bool.{and-true, and-false}
@@ -10,7 +10,6 @@ use Rattle.words.specs.declared.refusals.Refusal.{Refusal}
 use Rattle.store.specs.Layout.{scratch_words}
 use Rattle.store.specs.Calls.{zeros}
 use Rattle.store.specs.Admit.{cleared}
-use Rattle.store.specs.declared.inner.admit.Admitted.TheVariants.{Ready as ready, Refused}
 use Rattle.store.specs.Checks.{Check, given, unless}
 use Rattle.store.specs.Checks.Laws.{clear_goes, due_given, unless_first, unless_next}
 use Rattle.sets.specs.Calls.{SetLeft, set_left, lent_lengths, lent_checks, refused as setRefused, refusal as setRefusal}
@@ -45,30 +44,30 @@ module _ (w v z : List ℕ) (n : ℕ) (o : List ℕ) (r : VerdictReply) (p : Lis
     plain = rw (eq-eqb (length o) n l) (and-true (lent_lengths w v z))
 
     -- refused 2, 1 or 3
-    pub left_refused : (more : List Check) (f : Refusal) (u : List ℕ) → OpenedSet w v z (Refused f) u → verdict_left (refused (number f)) u o ≡ read_call n more w v z o r p
+    pub left_refused : (more : List Check) (f : Refusal) (u : List ℕ) → OpenedSet w v z (Err f) u → verdict_left (refused (number f)) u o ≡ read_call n more w v z o r p
     unfolding read_call lent_checks
     left_refused more f u s =
         rw plain (sym (refusal_scratch w v z o (number f) u s.1) ∙ sym (due_given (read_refusal z o) (verdict_left r zeros p) (number f) (lent_checks (lent_lengths w v z) w v []) more s.0))
 
     -- else the checks in `more` are next
-    goes_on : (more : List Check) (u : List ℕ) → OpenedSet w v z ready u → read_call n more w v z o r p ≡ unless more (read_refusal z o) (verdict_left r zeros p)
+    goes_on : (more : List Check) (u : List ℕ) → OpenedSet w v z (Ok tt) u → read_call n more w v z o r p ≡ unless more (read_refusal z o) (verdict_left r zeros p)
     unfolding read_call lent_checks
     goes_on more u s = rw plain (clear_goes (read_refusal z o) (verdict_left r zeros p) (lent_checks (lent_lengths w v z) w v []) more s.1)
 
     module _ (y x : List ℕ) (e : length y ≡ scratch_words) (c : x ≡ replicate (length y) 0) where
       -- where there are none, the answer; the scratch is cleared before
-      pub left_answered : (u : List ℕ) → OpenedSet w v z ready u → verdict_left r x p ≡ read_call n [] w v z o r p
+      pub left_answered : (u : List ℕ) → OpenedSet w v z (Ok tt) u → verdict_left r x p ≡ read_call n [] w v z o r p
       unfolding unless
       left_answered u s = ap (λ (t : List ℕ). verdict_left r t p) (c ∙ cleared y e) ∙ sym (goes_on [] u s)
 
       -- one more check, passed and not
-      pub left_passed : (k : ℕ) (b : Bool) → b ≡ false → (u : List ℕ) → OpenedSet w v z ready u → verdict_left r x p ≡ read_call n (given k b ∷ []) w v z o r p
+      pub left_passed : (k : ℕ) (b : Bool) → b ≡ false → (u : List ℕ) → OpenedSet w v z (Ok tt) u → verdict_left r x p ≡ read_call n (given k b ∷ []) w v z o r p
       unfolding unless
       left_passed k b h u s =
           ap (λ (t : List ℕ). verdict_left r t p) (c ∙ cleared y e)
           ∙ sym (goes_on (given k b ∷ []) u s ∙ unless_next (read_refusal z o) (verdict_left r zeros p) (given k b) [] h)
 
-      pub left_due : (k : ℕ) → (k ≡ 2 → ⊥) → (b : Bool) → b ≡ true → (u : List ℕ) → OpenedSet w v z ready u
+      pub left_due : (k : ℕ) → (k ≡ 2 → ⊥) → (b : Bool) → b ≡ true → (u : List ℕ) → OpenedSet w v z (Ok tt) u
           → verdict_left (refused k) x o ≡ read_call n (given k b ∷ []) w v z o r p
       unfolding read_refusal
       left_due k d b h u s =

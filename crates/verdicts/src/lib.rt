@@ -2,13 +2,11 @@
 // store and the scratch, checks them itself, and leaves the scratch zero.
 #![tactic(auto)]
 
-mod answers;
 mod listing;
 mod single;
 mod subsets;
 mod verdict;
 
-pub use answers::{AltFound, Decided, Written};
 pub use listing::{conflicting_alt_subsets, conflicting_alts};
 pub use single::{single_viable_alt, unique_alt};
 pub use subsets::{all_subsets_conflict, all_subsets_equal};

@@ -3,14 +3,12 @@ ghost use Rattle.std.specs.Prelude.{◌≡◌};
 ghost use Rattle.verdicts.specs.Calls.{conflicting_alt_subsets_call, conflicting_alts_call, verdict_left};
 ghost use Rattle.verdicts.specs.Replies.{wrote};
 
-use crate::answers::Written;
 use grouping::inner::lead::lead_all;
 use grouping::inner::marks::{Picks, mark_all};
 use grouping::inner::traits::Alike;
 use outputs::inner::alts::write_alts;
 use outputs::inner::subsets::write_groups;
 use setcheck::inner::open::open_set;
-use store::inner::admit::Admitted;
 use words::Refusal;
 
 const SUBSETS_WORDS: usize = 1025;
@@ -23,21 +21,18 @@ pub fn conflicting_alt_subsets(
     set: &[u32],
     scratch: &mut [u32],
     output: &mut [u32],
-) -> Written
+) -> Result<(), Refusal>
     ensures { verdict_left (wrote result) scratch.new output.new
         ≡ conflicting_alt_subsets_call store.now set.now scratch.old output.old }
 {
     if output.len() != SUBSETS_WORDS {
-        return Written::Refused(Refusal::WrongLength);
+        return Err(Refusal::WrongLength);
     }
-    let opened = open_set(store, set, scratch);
-    if let Admitted::Refused(refusal) = opened {
-        return Written::Refused(refusal);
-    }
+    open_set(store, set, scratch)?;
     let subsets = lead_all(set, scratch, Alike::Place);
     write_groups(set, scratch, output, subsets);
     words::clear(scratch);
-    Written::Done
+    Ok(())
 }
 
 // Which alternatives are in subsets with two or more? They are written to 257 words.
@@ -46,20 +41,17 @@ pub fn conflicting_alts(
     set: &[u32],
     scratch: &mut [u32],
     output: &mut [u32],
-) -> Written
+) -> Result<(), Refusal>
     ensures { verdict_left (wrote result) scratch.new output.new
         ≡ conflicting_alts_call store.now set.now scratch.old output.old }
 {
     if output.len() != ALTS_WORDS {
-        return Written::Refused(Refusal::WrongLength);
+        return Err(Refusal::WrongLength);
     }
-    let opened = open_set(store, set, scratch);
-    if let Admitted::Refused(refusal) = opened {
-        return Written::Refused(refusal);
-    }
+    open_set(store, set, scratch)?;
     let _ = lead_all(set, scratch, Alike::Place);
     mark_all(set, scratch, Picks::Rivals);
     write_alts(set, scratch, output);
     words::clear(scratch);
-    Written::Done
+    Ok(())
 }

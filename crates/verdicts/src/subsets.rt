@@ -1,49 +1,36 @@
 // All subsets: whether each has two or more alternatives, and whether they are equal.
 ghost use Rattle.std.specs.Prelude.{◌≡◌, []};
-ghost use Rattle.verdicts.specs.Calls.{all_subsets_conflict_call, all_subsets_equal_call, says, verdict_left};
+ghost use Rattle.verdicts.specs.Calls.{all_subsets_conflict_call, all_subsets_equal_call, verdict_left};
 ghost use Rattle.verdicts.specs.Replies.{decided};
 
-use crate::answers::Decided;
 use deciding::inner::equal::subsets_equal;
 use grouping::inner::marks::{Picks, each_picked};
 use grouping::inner::traits::Alike;
 use setcheck::inner::open::open_set;
-use store::inner::admit::Admitted;
-
-// Yes or no.
-pub fn answer(yes: bool) -> Decided
-    ensures { decided result ≡ says yes }
-{
-    if yes {
-        return Decided::Yes;
-    }
-    Decided::No
-}
+use words::Refusal;
 
 // Has each subset two or more alternatives? Then each config has a rival in its own.
-pub fn all_subsets_conflict(store: &[u32], set: &[u32], scratch: &mut [u32]) -> Decided
+pub fn all_subsets_conflict(
+    store: &[u32],
+    set: &[u32],
+    scratch: &mut [u32],
+) -> Result<bool, Refusal>
     ensures { verdict_left (decided result) scratch.new []
         ≡ all_subsets_conflict_call store.now set.now scratch.old }
 {
-    let opened = open_set(store, set, scratch);
-    if let Admitted::Refused(refusal) = opened {
-        return Decided::Refused(refusal);
-    }
+    open_set(store, set, scratch)?;
     let yes = each_picked(set, scratch, Alike::Place, Picks::Rivals);
     words::clear(scratch);
-    answer(yes)
+    Ok(yes)
 }
 
 // Are all subsets equal?
-pub fn all_subsets_equal(store: &[u32], set: &[u32], scratch: &mut [u32]) -> Decided
+pub fn all_subsets_equal(store: &[u32], set: &[u32], scratch: &mut [u32]) -> Result<bool, Refusal>
     ensures { verdict_left (decided result) scratch.new []
         ≡ all_subsets_equal_call store.now set.now scratch.old }
 {
-    let opened = open_set(store, set, scratch);
-    if let Admitted::Refused(refusal) = opened {
-        return Decided::Refused(refusal);
-    }
+    open_set(store, set, scratch)?;
     let yes = subsets_equal(set, scratch);
     words::clear(scratch);
-    answer(yes)
+    Ok(yes)
 }

@@ -1,6 +1,6 @@
 // The interner's hash: each word is taken in by a rotation, an xor and a multiplication modulo 2^64.
-ghost use Rattle.std.specs.Prelude.{◌≡◌, bit_xor};
-ghost use Rattle.words.specs.Hash.{empty_words, hash_of, mixed, rotated, singleton_words};
+ghost use Rattle.std.specs.Prelude.{◌≡◌};
+ghost use Rattle.words.specs.Hash.{empty_words, hash_of, mixed, singleton_words};
 
 use crate::multiply::wrapping_mul;
 use crate::names::CompactState;
@@ -8,25 +8,11 @@ use crate::names::CompactState;
 // The factor of each step.
 pub const FX_SEED: u64 = 0x517c_c1b7_2722_0a95;
 
-// x rotated left by 5 bits.
-pub fn rotate_left_5(x: u64) -> u64
-    ensures { result ≡ rotated x }
-{
-    (x << 5) | (x >> 59)
-}
-
-// The bits in which x and y differ.
-pub fn xor(x: u64, y: u64) -> u64
-    ensures { result ≡ bit_xor x y }
-{
-    x ^ y
-}
-
 // The hash after one word more.
 pub fn mix(hash: u64, word: u64) -> u64
     ensures { result ≡ mixed hash word }
 {
-    wrapping_mul(xor(rotate_left_5(hash), word), FX_SEED)
+    wrapping_mul(hash.rotate_left(5) ^ word, FX_SEED)
 }
 
 // The hash of a list of words.
@@ -34,10 +20,8 @@ pub fn hash_words(words: &[u64]) -> u64
     ensures { result ≡ hash_of words.now }
 {
     let mut hash: u64 = 0;
-    let mut i = 0;
-    while i < words.len() {
-        hash = mix(hash, words[i]);
-        i += 1;
+    for &word in words {
+        hash = mix(hash, word);
     }
     hash
 }
@@ -53,6 +37,5 @@ pub fn empty_hash() -> u64
 pub fn singleton_hash(parent_hash: u64, state: CompactState) -> u64
     ensures { result ≡ hash_of (singleton_words parent_hash state.0) }
 {
-    let word = state.0;
-    mix(mix(mix(0, 1), parent_hash), word as u64)
+    mix(mix(mix(0, 1), parent_hash), u64::from(state.0))
 }

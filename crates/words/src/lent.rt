@@ -7,8 +7,7 @@ ghost use Rattle.words.specs.Lent.{all_zero, cleared_range, copied_range};
 pub fn clear(words: &mut [u32])
     ensures { words.new ≡ replicate (length words.old) 0 }
 {
-    let end = words.len();
-    clear_range(words, 0, end);
+    words.fill(0);
 }
 
 // Sets the words from `from` up to, not including, `to` to 0.
@@ -16,11 +15,7 @@ pub fn clear_range(words: &mut [u32], from: usize, to: usize)
     requires { (from ≤ to) × (to ≤ length words.old) }
     ensures { words.new ≡ cleared_range words.old from to }
 {
-    let mut i = from;
-    while i < to {
-        words[i] = 0;
-        i += 1;
-    }
+    words[from..to].fill(0);
 }
 
 // Copies `count` words of source, from `from` on, over those of target from `at` on.
@@ -28,11 +23,7 @@ pub fn copy_range(target: &mut [u32], at: usize, source: &[u32], from: usize, co
     requires { (at + count ≤ length target.old) × (from + count ≤ length source.now) }
     ensures { target.new ≡ copied_range target.old at source.now from count }
 {
-    let mut done = 0;
-    while done < count {
-        target[at + done] = source[from + done];
-        done += 1;
-    }
+    target[at..at + count].copy_from_slice(&source[from..from + count]);
 }
 
 // Are all words from `from` up to, not including, `to` 0? All of them are read, without a way out
@@ -42,10 +33,8 @@ pub fn all_zero(words: &[u32], from: usize, to: usize) -> bool
     ensures { result ≡ all_zero words.now from to }
 {
     let mut seen: u32 = 0;
-    let mut at = from;
-    while at < to {
-        seen |= words[at];
-        at += 1;
+    for &word in &words[from..to] {
+        seen |= word;
     }
     seen == 0
 }

@@ -13,8 +13,8 @@ pub use hash::{empty_hash, hash_words, mix, singleton_hash};
 pub use lent::{all_zero, clear, clear_range, copy_range};
 pub use multiply::wrapping_mul;
 pub use names::{
-    Alternative, COMPACT_EMPTY_RETURN_STATE, CompactState, Compacted, ContextId,
-    EMPTY_RETURN_STATE, ReturnState, SemanticId, compact, expand,
+    Alternative, COMPACT_EMPTY_RETURN_STATE, CompactState, ContextId, EMPTY_RETURN_STATE,
+    ReturnState, SemanticId,
 };
 pub use provenance::{merge_marks, provenance_id, provenance_mark};
-pub use refusals::{Refusal, refusal_number};
+pub use refusals::Refusal;

@@ -45,6 +45,7 @@ fn take_32(sum: u64, x: u64, bits: u64) -> u64
 
 // x times y modulo 2^64: the sum, from 0 on, after all 64 bits of y. There is no loop, and there are
 // two halves, so that the compiler makes one multiplication of it wherever it knows y (docs/landings/A5.md).
+// Kept by request A5 and its edits carry_kept, doubling_too_many and set_bit_left_out, where the library has one.
 pub fn wrapping_mul(x: u64, y: u64) -> u64
     ensures { result ≡ (x * y) % 2 ^ 64 }
 {

@@ -11,17 +11,7 @@ pub fn agrees(out: &[u8], wrote: usize, answer: &[u8], at: usize) -> bool
     requires { (wrote ≤ length out.now) × (at ≤ length answer.now) }
     ensures { Tells (take wrote (drop at answer.now) ≡ take wrote out.now) result }
 {
-    if answer.len() - at < wrote {
-        return false;
-    }
-    let mut i = 0;
-    while i < wrote {
-        if answer[at + i] != out[i] {
-            return false;
-        }
-        i += 1;
-    }
-    true
+    answer[at..].starts_with(&out[..wrote])
 }
 
 // Is the end line all that is left of the answer from place `at` on?
@@ -35,11 +25,5 @@ pub fn agrees_last(
     ensures { Tells (answer.now ≡ take at answer.now ++ end_line store.now) result }
 {
     let wrote = lay_end(out, store);
-    if !agrees(out, wrote, answer, at) {
-        return false;
-    }
-    if wrote == answer.len() - at {
-        return true;
-    }
-    false
+    answer[at..] == out[..wrote]
 }

@@ -1,5 +1,5 @@
 -- The struct of a refusal. Nothing here has to be believed.
-use Rattle.std.specs.Prelude.{◌≡◌, ℕ}
+use Rattle.std.specs.Prelude.{◌≡◌, ℕ, Ok, Err}
 use Rattle.words.specs.Refusals.{number}
 use Rattle.words.specs.declared.refusals.Refusal.{Refusal}
 use Rattle.store.specs.Calls.{refused}
@@ -10,7 +10,6 @@ use Rattle.deciding.specs.OneAlt.{one_alt}
 use Rattle.verdicts.specs.Calls.{refused as notSaid, says, alternative}
 use Rattle.figures.specs.Replies.{told}
 use Rattle.figures.specs.declared.answers.Figures.{Figures}
-use Rattle.figures.specs.declared.answers.Told.TheVariants.{All, Refused}
 use Rattle.answers.specs.declared.figuring.FiguresAnswer.{FiguresAnswer}
 use Rattle.answers.specs.FiguresAnswers.{figures_answer_of}
 use Rattle.answers.specs.VerdictAnswers.{alt_answer_of, verdict_answer_of}
@@ -53,11 +52,11 @@ one_answers (only x) f v d e = rw (d, e)
 -- all figures
 pub told_figures : (f : Figures) (a b c d e : ℕ) → a ≡ (alt_answer_of (alternative (one_alt f.unique))).found → b ≡ (alt_answer_of (alternative (one_alt f.unique))).value
     → c ≡ (alt_answer_of (alternative (one_alt f.viable))).found → d ≡ (alt_answer_of (alternative (one_alt f.viable))).value → e ≡ (alt_answer_of (says f.verdict)).value
-    → ◌≡◌ {A = FiguresAnswer} (record { refusal = 0; subsets = f.subsets; has_unique = a; unique = b; has_viable = c; viable = d; verdict = e }) (figures_answer_of (told (All f)))
+    → ◌≡◌ {A = FiguresAnswer} (record { refusal = 0; subsets = f.subsets; has_unique = a; unique = b; has_viable = c; viable = d; verdict = e }) (figures_answer_of (told (Ok f)))
 unfolding alt_answer_of
 told_figures f a b c d e p q r s t = rw (p, q, r, s, t)
 
 pub refused_figures : (f : Refusal) (n : ℕ) → n ≡ number f
-    → ◌≡◌ {A = FiguresAnswer} (record { refusal = n; subsets = 0; has_unique = 0; unique = 0; has_viable = 0; viable = 0; verdict = 0 }) (figures_answer_of (told (Refused f)))
+    → ◌≡◌ {A = FiguresAnswer} (record { refusal = n; subsets = 0; has_unique = 0; unique = 0; has_viable = 0; viable = 0; verdict = 0 }) (figures_answer_of (told (Err f)))
 unfolding alt_answer_of
 refused_figures f n e = rw e

@@ -26,8 +26,7 @@ use Rattle.work.specs.Counted.{Outcome, done, refused as over, State, counted, c
 use Rattle.work.proofs.Theorems.{answer_is, answer_fits, refusal_is, sides_exchanged}
 use Rattle.cache.specs.Cache.{Emptied, merges_counted}
 use Rattle.store.specs.Admit.{Admits, cleared, known_goes, unknown}
-use Rattle.store.specs.declared.inner.admit.Admitted.{Admitted}
-use Rattle.store.specs.declared.inner.admit.Admitted.TheVariants.{Ready as ready, Refused}
+use Rattle.std.specs.Prelude.{Result, Ok, Err}
 use Rattle.store.specs.Checks.{unless}
 use Rattle.store.specs.Calls.{refused, context, Left, leaves, leaves_after, zeros, kept, refusal, too_much_work, no_room, gives_after}
 use Rattle.store.specs.Nested.{if_known, checked, checked_nested, both_known_nested}
@@ -149,11 +148,11 @@ module _ (m : Bool) (w z : List ℕ) (a b : ℕ) (v : Live w z) (ha : a < count 
 
 -- ---- the call, after its first checks
 
-module _ (w z u : List ℕ) (a b : ℕ) (m : Bool) (r : Admitted) (v : Admits w z a r u) where
-  pub call_refused : (f : Refusal) → r ≡ Refused f → leaves (refused (number f)) w u ≡ merge_call w z a b m
+module _ (w z u : List ℕ) (a b : ℕ) (m : Bool) (r : Result Unit Refusal) (v : Admits w z a r u) where
+  pub call_refused : (f : Refusal) → r ≡ Err f → leaves (refused (number f)) w u ≡ merge_call w z a b m
   call_refused f e = sym (merge_nested w z a b m ∙ (rw e at v) (if_known w b (merged_known w a b m)))
 
-  module _ (e : r ≡ ready) where
+  module _ (e : r ≡ Ok tt) where
     pub call_ready : Live w u × (a < count w)
     call_ready = let o = rw e at v in (ready_live w u o.0, o.1)
 

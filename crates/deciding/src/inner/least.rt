@@ -1,20 +1,9 @@
 // The smallest alternative of a set.
-ghost use Rattle.std.specs.Prelude.{◌≡◌, ◌<◌, min};
+ghost use Rattle.std.specs.Prelude.{◌<◌};
 ghost use Rattle.groups.specs.Layout.{config_count};
 ghost use Rattle.deciding.specs.Alone.{Counted, Least};
 
-use grouping::inner::traits::alternative_of;
-use setcheck::inner::read::config_count;
-
-// The smaller of two alternatives.
-fn smaller(one: u32, other: u32) -> u32
-    ensures { result ≡ min one other }
-{
-    if one < other {
-        return one;
-    }
-    other
-}
+use setcheck::inner::read::{config_at, config_count};
 
 // The smallest alternative of a set that has a config.
 pub fn least_alt(set: &[u32]) -> u32
@@ -22,11 +11,9 @@ pub fn least_alt(set: &[u32]) -> u32
     ensures { Least set.now (config_count set.now) result }
 {
     let count = config_count(set) as usize;
-    let mut least = alternative_of(set, 0);
-    let mut place = 1;
-    while place < count {
-        least = smaller(least, alternative_of(set, place));
-        place += 1;
+    let mut least = config_at(set, 0).alt.0;
+    for place in 1..count {
+        least = least.min(config_at(set, place).alt.0);
     }
     least
 }

@@ -1,6 +1,5 @@
 // The verdict on the configs of a sound set.
-ghost use Rattle.std.specs.Prelude.{◌≡◌, true, ◌<◌, eqb, length};
-ghost use Rattle.groups.specs.Layout.{config_at, most_configs, set_words_length};
+ghost use Rattle.std.specs.Prelude.{◌≡◌, true, eqb};
 ghost use Rattle.groups.specs.SetsLists.{any};
 ghost use Rattle.groups.specs.Answers.{stopped, verdict};
 ghost use Rattle.grouping.specs.Clash.{configs_of};
@@ -12,27 +11,12 @@ use grouping::inner::clash::clashes;
 use grouping::inner::lead::lead_all;
 use grouping::inner::marks::{Picks, each_picked};
 use grouping::inner::traits::Alike;
-use setcheck::inner::places::{CONFIG_WORDS, FIRST_CONFIG, STATE};
-use setcheck::inner::read::config_count;
+use setcheck::inner::read::{config_at, config_count};
 
 // A list of stop states has at most as many.
 pub const MOST_STOPS: usize = 64;
 
-// Is a state in the list?
-fn is_listed(stops: &[u32], state: u32) -> bool
-    ensures { result ≡ any (eqb state) stops.now }
-{
-    let mut i = 0;
-    while i < stops.len() {
-        if stops[i] == state {
-            return true;
-        }
-        i += 1;
-    }
-    false
-}
-
-// The same, where the state `last` is in the list.
+// Is a state in the list? The state `last` is.
 fn listed_too(stops: &[u32], last: u32, state: u32) -> bool
     requires { any (eqb last) stops.now ≡ true }
     ensures { result ≡ any (eqb state) stops.now }
@@ -40,15 +24,7 @@ fn listed_too(stops: &[u32], last: u32, state: u32) -> bool
     if state == last {
         return true;
     }
-    is_listed(stops, state)
-}
-
-// The state of a config.
-pub fn state_of(set: &[u32], place: usize) -> u32
-    requires { (length set.now ≡ set_words_length) × (place < most_configs) }
-    ensures { result ≡ (config_at set.now place).state }
-{
-    set[FIRST_CONFIG + CONFIG_WORDS * place + STATE]
+    stops.contains(&state)
 }
 
 // Is a config in a listed stop state, where all before it are? Many share the state of the one before.
@@ -56,11 +32,11 @@ fn stops_too(set: &[u32], stops: &[u32], place: usize) -> bool
     requires { StopsBefore stops.now set.now place }
     ensures { result ≡ Stop stops.now set.now place }
 {
-    let state = state_of(set, place);
+    let state = config_at(set, place).state;
     if place == 0 {
-        return is_listed(stops, state);
+        return stops.contains(&state);
     }
-    let last = state_of(set, place - 1);
+    let last = config_at(set, place - 1).state;
     listed_too(stops, last, state)
 }
 
@@ -69,13 +45,10 @@ pub fn all_stopped(set: &[u32], stops: &[u32]) -> bool
     requires { Counted set.now }
     ensures { result ≡ stopped stops.now (configs_of set.now) }
 {
-    let count = config_count(set) as usize;
-    let mut place = 0;
-    while place < count {
+    for place in 0..config_count(set) as usize {
         if !stops_too(set, stops, place) {
             return false;
         }
-        place += 1;
     }
     true
 }

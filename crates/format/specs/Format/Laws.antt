@@ -5,6 +5,7 @@ use Rattle.std.proofs.Common.{arith, lt-ltb, le-ltb, leb-true, le-leb, ne_eqb}
 use Rattle.std.proofs.lemmas.Bool.{lt-leb}
 use Rattle.format.specs.Bytes.{u16_at, u32_at, u64_at, words_at}
 use Rattle.format.specs.Payloads.{payload_of, accepts}
+use Rattle.format.specs.Payloads.Laws.{payload_1, payload_2, payload_3, payload_4, payload_5, payload_7}
 use Rattle.words.specs.Numbers.{below?}
 use Rattle.format.specs.Format.{Record, singleton, merge, new_set, add, stops, verdict, show, close, why, Reading, found, ended, malformed}
 use Rattle.format.specs.Format.{if_well, config_from, if_kind, payload_at, record_at, read_at}
@@ -63,6 +64,9 @@ unfolding payload_at
 payload_other s k p e a b c d f g h i j =
     rw (ne_eqb k 1 a, ne_eqb k 2 b, ne_eqb k 3 d, ne_eqb k 4 f, ne_eqb k 5 g, ne_eqb k 6 h, ne_eqb k 7 c, ne_eqb k 8 i, ne_eqb k 9 j)
 
+-- a payload, by its kind and its mode
+pub ruleset payload_laws = (payload_singleton, merge_mode, payload_merge, new_mode, payload_new, payload_add, payload_stops, payload_verdict, payload_show, payload_close, payload_why, payload_other, payload_1, payload_2, payload_3, payload_4, payload_5, payload_7)
+
 -- ---- a record, by its header
 
 module _ (s : List ℕ) (i n k : ℕ) where
@@ -78,6 +82,8 @@ module _ (s : List ℕ) (i n k : ℕ) where
   unfolding record_at
   record_right h e = rw (le-leb (i + 4 + n) (length s) h, e)
 
+pub ruleset record_laws = (record_short, record_wrong, record_right)
+
 -- ---- a place
 
 module _ (s : List ℕ) (i : ℕ) where
@@ -92,6 +98,8 @@ module _ (s : List ℕ) (i : ℕ) where
   pub read_header : i + 4 ≤ length s → read_at s i ≡ record_at s i (u16_at s i) (u16_at s (i + 2))
   unfolding read_at
   read_header h = rw (lt-ltb i (length s) (omega arith), read_at) (rw (le-leb (i + 4) (length s) h))
+
+pub ruleset place_laws = (read_end, read_short, read_header)
 
 -- ---- a record that was found ends within the script, past its start
 

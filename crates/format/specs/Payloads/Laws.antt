@@ -10,7 +10,7 @@ use Rattle.words.specs.Numbers.{below?}
 use Rattle.format.specs.Payloads.{Payload, exactly, fours, none, payloads, payload_of, accepts}
 use Rattle.format.specs.Table.{variable, no_kind, entry, entry_accepts}
 
--- the code's table
+-- the table of all kinds
 unfoldable pub table : List ℕ
 table = no_kind ∷ 12 ∷ 9 ∷ 1 ∷ 24 ∷ variable ∷ 0 ∷ 4 ∷ 0 ∷ 0 ∷ []
 

@@ -9,8 +9,7 @@ ghost use Rattle.grouping.specs.Led.{Led};
 ghost use Rattle.grouping.specs.declared.inner.traits.Alike.TheVariants.{Place};
 
 use crate::inner::places::LEADERS;
-use crate::inner::traits::alternative_of;
-use setcheck::inner::read::config_count;
+use setcheck::inner::read::{config_at, config_count};
 
 // Has some subset two or more? Then a config has another alternative than the first of its subset.
 pub fn clashes(set: &[u32], scratch: &[u32]) -> bool
@@ -18,13 +17,11 @@ pub fn clashes(set: &[u32], scratch: &[u32]) -> bool
     ensures { result ≡ any many (groups (configs_in set.now (config_count set.now))) }
 {
     let count = config_count(set) as usize;
-    let mut place = 0;
-    while place < count {
+    for place in 0..count {
         let leader = scratch[LEADERS + place] as usize;
-        if alternative_of(set, place) != alternative_of(set, leader) {
+        if config_at(set, place).alt != config_at(set, leader).alt {
             return true;
         }
-        place += 1;
     }
     false
 }

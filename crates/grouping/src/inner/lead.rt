@@ -1,18 +1,19 @@
 // For each config the first that is alike, and the next.
 ghost use Rattle.std.specs.Prelude.{◌≡◌, suc, ◌+◌, ◌<◌, length};
+ghost use Rattle.encoding.specs.Decide.{same_words};
 ghost use Rattle.encoding.specs.Layout.{scratch_words};
 ghost use Rattle.groups.specs.Chains.{last};
-ghost use Rattle.groups.specs.Layout.{config_count, most_configs};
+ghost use Rattle.groups.specs.Layout.{config_at, config_count, most_configs, set_words_length};
 ghost use Rattle.groups.specs.Words.{configs_in};
 ghost use Rattle.groups.specs.Groups.{firsts};
-ghost use Rattle.setcheck.specs.Keys.{place_of};
-ghost use Rattle.grouping.specs.Alike.{alike_at, alike_of};
+ghost use Rattle.setcheck.specs.Keys.{key_words, place_of};
+ghost use Rattle.grouping.specs.Alike.{alike_at, alike_of, shared_words};
 ghost use Rattle.grouping.specs.Find.{SoughtAlike};
 ghost use Rattle.grouping.specs.Led.{Led, Lent, followed};
 
 use crate::inner::places::{LEADERS, MEMBERS};
-use crate::inner::traits::{Alike, same_traits, traits_bucket, traits_of};
-use setcheck::inner::keys::{KeyPlace, link_key};
+use crate::inner::traits::{Alike, traits_of};
+use setcheck::inner::keys::{bucket_of, last_chained, link_key};
 use setcheck::inner::places::{KEY_HEADS, KEY_LINKS};
 use setcheck::inner::read::config_count;
 
@@ -23,20 +24,19 @@ pub fn find_alike(
     place: usize,
     alike: Alike,
     bucket: usize,
-) -> KeyPlace
+) -> Option<usize>
     requires { SoughtAlike set.now alike place scratch.now bucket }
     ensures { place_of result ≡ last (λ j. alike_at set.now alike j place) place }
 {
     let traits = traits_of(set, place, alike);
-    let mut next = scratch[KEY_HEADS + bucket];
-    while next != 0 {
-        let before = (next - 1) as usize;
-        if same_traits(traits_of(set, before, alike), traits) {
-            return KeyPlace::At(before);
-        }
-        next = scratch[KEY_LINKS + before];
-    }
-    KeyPlace::New
+    last_chained(
+        scratch,
+        bucket,
+        |before|
+            requires { (length set.now ≡ set_words_length) × (before < most_configs) }
+            ensures { result ≡ same_words (shared_words alike (config_at set.entry.now before)) (key_words traits) }
+        { traits_of(set, before, alike) == traits },
+    )
 }
 
 // Puts a config after the last one before it that is alike: both have one first.
@@ -55,11 +55,11 @@ pub fn lead(set: &[u32], scratch: &mut [u32], place: usize, alike: Alike) -> usi
     ensures { Led set.now alike (suc place) scratch.new
         × (length (firsts (alike_of alike) (configs_in set.now (suc place))) ≡ length (firsts (alike_of alike) (configs_in set.now place)) + result) }
 {
-    let bucket = traits_bucket(traits_of(set, place, alike));
+    let bucket = bucket_of(traits_of(set, place, alike));
     let found = find_alike(set, scratch, place, alike, bucket);
     link_key(scratch, place, bucket);
     scratch[MEMBERS + place] = 0;
-    let KeyPlace::At(before) = found else {
+    let Some(before) = found else {
         scratch[LEADERS + place] = place as u32;
         return 1;
     };
@@ -76,10 +76,8 @@ pub fn lead_all(set: &[u32], scratch: &mut [u32], alike: Alike) -> usize
     words::clear_range(scratch, KEY_HEADS, KEY_LINKS);
     let count = config_count(set) as usize;
     let mut firsts = 0;
-    let mut place = 0;
-    while place < count {
+    for place in 0..count {
         firsts += lead(set, scratch, place, alike);
-        place += 1;
     }
     firsts
 }

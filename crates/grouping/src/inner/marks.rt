@@ -9,9 +9,8 @@ ghost use Rattle.grouping.specs.FirstMarked.{FirstMarked, FirstPicked};
 
 use crate::inner::lead::lead_all;
 use crate::inner::places::{LEADERS, MARKS, MARKS_END};
-use crate::inner::traits::{Alike, alternative_of};
-use setcheck::inner::keys::KeyPlace;
-use setcheck::inner::read::config_count;
+use crate::inner::traits::Alike;
+use setcheck::inner::read::{config_at, config_count};
 use words::Alternative;
 
 // Which configs mark the first one: those with another alternative than it has, or those with this one.
@@ -26,10 +25,10 @@ fn picked(set: &[u32], leader: usize, place: usize, by: Picks) -> bool
     requires { (length set.now ≡ set_words_length) × (leader < most_configs) × (place < most_configs) }
     ensures { result ≡ picks by (config_at set.now leader) (config_at set.now place) }
 {
-    let alternative = alternative_of(set, place);
+    let alternative = config_at(set, place).alt;
     match by {
-        Picks::Rivals => alternative != alternative_of(set, leader),
-        Picks::Holders(held) => alternative == held.0,
+        Picks::Rivals => alternative != config_at(set, leader).alt,
+        Picks::Holders(held) => alternative == held,
     }
 }
 
@@ -50,31 +49,27 @@ pub fn mark_all(set: &[u32], scratch: &mut [u32], by: Picks)
 {
     words::clear_range(scratch, MARKS, MARKS_END);
     let count = config_count(set) as usize;
-    let mut place = 0;
-    while place < count {
+    for place in 0..count {
         let leader = scratch[LEADERS + place] as usize;
         let found = picked(set, leader, place, by);
         mark_if(scratch, leader, found);
-        place += 1;
     }
 }
 
 // The first config, in set order, whose first one is marked, or is not.
-fn first_marked(set: &[u32], scratch: &[u32], marked: bool) -> KeyPlace
+fn first_marked(set: &[u32], scratch: &[u32], marked: bool) -> Option<usize>
     requires { Markable set.now scratch.now }
     ensures { FirstMarked (config_count set.now) scratch.now marked result }
 {
     let count = config_count(set) as usize;
-    let mut place = 0;
-    while place < count {
+    for place in 0..count {
         let leader = scratch[LEADERS + place] as usize;
         let found = scratch[MARKS + leader] != 0;
         if found == marked {
-            return KeyPlace::At(place);
+            return Some(place);
         }
-        place += 1;
     }
-    KeyPlace::New
+    None
 }
 
 // The first config, in set order, that has one alike that is picked, or that has none.
@@ -84,7 +79,7 @@ pub fn first_picked(
     alike: Alike,
     by: Picks,
     has: bool,
-) -> KeyPlace
+) -> Option<usize>
     requires { Lent set.now scratch.old }
     ensures { FirstPicked set.now alike by has result × Lent set.now scratch.new }
 {
@@ -99,9 +94,5 @@ pub fn each_picked(set: &[u32], scratch: &mut [u32], alike: Alike, by: Picks) ->
     ensures { (result ≡ each_picked alike by (configs_in set.now (config_count set.now)))
         × Lent set.now scratch.new }
 {
-    let without = first_picked(set, scratch, alike, by, false);
-    match without {
-        KeyPlace::At(_) => false,
-        KeyPlace::New => true,
-    }
+    first_picked(set, scratch, alike, by, false).is_none()
 }

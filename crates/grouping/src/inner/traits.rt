@@ -1,13 +1,14 @@
-// What configs share that are alike. A bucket only picks the chain: every candidate is compared.
+// What configs share that are alike.
 ghost use Rattle.std.specs.Prelude.{◌≡◌, ◌<◌, length};
-ghost use Rattle.encoding.specs.Decide.{same_words};
 ghost use Rattle.groups.specs.Layout.{config_at, most_configs, set_words_length};
-ghost use Rattle.setcheck.specs.Keys.{key_bucket};
-ghost use Rattle.grouping.specs.Alike.{trait_words, traits_by};
+ghost use Rattle.setcheck.specs.Keys.{key_words};
+ghost use Rattle.grouping.specs.Alike.{shared_words};
 
-use setcheck::inner::places::{ALTERNATIVE, CONFIG_WORDS, CONTEXT, FIRST_CONFIG, STATE};
+use setcheck::inner::keys::Key;
+use setcheck::inner::read::config_at;
 
 // Which of state, context and alternative configs must share to be alike.
+// Kept as an enum, where a closure would do: the contracts of the walks say by which of these four they go.
 #[derive(Clone, Copy)]
 pub enum Alike {
     State,
@@ -16,52 +17,19 @@ pub enum Alike {
     Triple,
 }
 
-// State, context and alternative; 0 stands for what is left out.
-#[derive(Clone, Copy)]
-pub struct Traits(pub u32, pub u32, pub u32);
-
-// The alternative of a config.
-pub fn alternative_of(set: &[u32], place: usize) -> u32
+// What a config is compared by: state, context and alternative.
+pub fn traits_of(set: &[u32], place: usize, alike: Alike) -> Key
     requires { (length set.now ≡ set_words_length) × (place < most_configs) }
-    ensures { result ≡ (config_at set.now place).alternative }
+    ensures { key_words result ≡ shared_words alike (config_at set.now place) }
 {
-    set[FIRST_CONFIG + CONFIG_WORDS * place + ALTERNATIVE]
-}
-
-// What a config is compared by.
-pub fn traits_of(set: &[u32], place: usize, alike: Alike) -> Traits
-    requires { (length set.now ≡ set_words_length) × (place < most_configs) }
-    ensures { trait_words result ≡ traits_by alike (config_at set.now place) }
-{
-    let at = FIRST_CONFIG + CONFIG_WORDS * place;
+    let config = config_at(set, place);
+    let state = config.state;
+    let context = config.context.0;
+    let alternative = config.alt.0;
     match alike {
-        Alike::State => Traits(set[at + STATE], 0, 0),
-        Alike::Place => Traits(set[at + STATE], set[at + CONTEXT], 0),
-        Alike::Alternative => Traits(0, 0, set[at + ALTERNATIVE]),
-        Alike::Triple => Traits(set[at + STATE], set[at + CONTEXT], set[at + ALTERNATIVE]),
+        Alike::State => Key(state, 0, 0, 0),
+        Alike::Place => Key(state, context, 0, 0),
+        Alike::Alternative => Key(0, 0, alternative, 0),
+        Alike::Triple => Key(state, context, alternative, 0),
     }
-}
-
-// Are they the same?
-pub fn same_traits(one: Traits, other: Traits) -> bool
-    ensures { result ≡ same_words (trait_words one) (trait_words other) }
-{
-    if one.0 != other.0 {
-        return false;
-    }
-    if one.1 != other.1 {
-        return false;
-    }
-    one.2 == other.2
-}
-
-// Their bucket: 8 bits of a product.
-pub fn traits_bucket(traits: Traits) -> usize
-    ensures { (result ≡ key_bucket (trait_words traits)) × (result < 256) }
-{
-    let state = traits.0 as u64;
-    let context = traits.1 as u64;
-    let alternative = traits.2 as u64;
-    let mixed = state + 31 * (context + 31 * alternative);
-    (mixed % 0x1_0000_0000 * 2654435769 / 0x100_0000 % 256) as usize
 }

@@ -125,6 +125,9 @@ module _ (w : List ℕ) (c : ℕ) (v : Known w c) where
   pub known_kind : (kind w c ≡ 0 → ⊥) → (kind w c ≡ 1 → ⊥) → kind w c ≡ 2
   known_kind a b = omega (arith, kind_most w v.sound c v.below)
 
+  pub known_root : (kind w c ≡ 1 → ⊥) → (kind w c ≡ 2 → ⊥) → kind w c ≡ 0
+  known_root a b = omega (arith, kind_most w v.sound c v.below)
+
   pub line_zero : kind w c ≡ 0 → 69 ∷ spaced 1 ++ entry_bytes stop 0 ++ 10 ∷ [] ≡ entries_line (node_at (store_of w) c)
   unfolding entries_line entries_bytes size
   line_zero e = rw (entry_stop stop 0 refl) (sym (ap entries_line (known_node ∙ node_zero w c e)))

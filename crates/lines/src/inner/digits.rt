@@ -4,7 +4,11 @@ ghost use Rattle.lines.specs.Decimal.{decimal};
 ghost use Rattle.lines.specs.Laid.{Wrote};
 ghost use Rattle.lines.specs.Lines.{spaced};
 
+// Bytes of the buffer in which a reply is laid: the longest, of 2,048 entries, has room.
+pub const LINE_BYTES: usize = 40000;
+
 // Lays one byte; the answer is the place after it.
+#[tactic(auto, using(crate::specs::Laid::Laws::wrote_one))]
 pub fn put_byte(out: &mut [u8], at: usize, byte: u8) -> usize
     requires { at < length out.old }
     ensures { Wrote out.old at (byte ∷ []) result out.new }
@@ -14,6 +18,7 @@ pub fn put_byte(out: &mut [u8], at: usize, byte: u8) -> usize
 }
 
 // Lays a number in decimal digits, without leading zeros.
+// Kept by hand: the bytes go into a lent buffer, with no heap, and `decimal` says each of them.
 pub fn put_decimal(out: &mut [u8], at: usize, n: u32) -> usize
     requires { at + length (decimal n) ≤ length out.old }
     ensures { Wrote out.old at (decimal n) result out.new }

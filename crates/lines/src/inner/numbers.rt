@@ -1,36 +1,38 @@
-// The line of two numbers, as a context or the end; of one, as a refusal; and of none.
-ghost use Rattle.std.specs.Prelude.{◌≡◌, [], ◌∷◌, length};
+// The line of a letter and numbers: two, as a context or the end; one, as a refusal; or none.
+ghost use Rattle.std.specs.Prelude.{[], ◌++◌, ◌∷◌, ◌+◌, ◌*◌, ◌≤◌, length};
+ghost use Rattle.words.specs.Refusals.{number};
 ghost use Rattle.lines.specs.Laid.{Wrote};
-ghost use Rattle.lines.specs.Lines.{line_bytes, number_line, numbers_line};
+ghost use Rattle.lines.specs.Lines.{refusal_line, spaced_all};
+ghost use Rattle.lines.specs.Spread.{Spread};
 
-use crate::inner::digits::{put_byte, put_spaced};
+use crate::inner::digits::{LINE_BYTES, put_byte, put_spaced};
+use words::Refusal;
 
-// Lays a letter, two numbers and a line end.
-pub fn lay_numbers(out: &mut [u8], letter: u8, n: u32, k: u32) -> usize
-    requires { length out.old ≡ line_bytes }
-    ensures { Wrote out.old 0 (numbers_line letter n k) result out.new }
+// Lays numbers, with a space before each.
+pub fn put_numbers(out: &mut [u8], at: usize, numbers: &[u32]) -> usize
+    requires { at + 11 * length numbers.now ≤ length out.old }
+    ensures { Spread out.old at numbers.now result out.new }
+{
+    let mut next = at;
+    for &n in numbers {
+        next = put_spaced(out, next, n);
+    }
+    next
+}
+
+// Lays a letter, a few numbers and a line end.
+pub fn lay_line(out: &mut [u8; LINE_BYTES], letter: u8, numbers: &[u32]) -> usize
+    requires { length numbers.now ≤ 256 }
+    ensures { Wrote out.old 0 (letter ∷ spaced_all numbers.now ++ 10 ∷ []) result out.new }
 {
     let at = put_byte(out, 0, letter);
-    let at = put_spaced(out, at, n);
-    let at = put_spaced(out, at, k);
+    let at = put_numbers(out, at, numbers);
     put_byte(out, at, b'\n')
 }
 
-// Lays a letter, a number and a line end.
-pub fn lay_number(out: &mut [u8], letter: u8, n: u32) -> usize
-    requires { length out.old ≡ line_bytes }
-    ensures { Wrote out.old 0 (number_line letter n) result out.new }
+// Lays the line of a refusal.
+pub fn lay_refusal(out: &mut [u8; LINE_BYTES], refusal: Refusal) -> usize
+    ensures { Wrote out.old 0 (refusal_line (number refusal)) result out.new }
 {
-    let at = put_byte(out, 0, letter);
-    let at = put_spaced(out, at, n);
-    put_byte(out, at, b'\n')
-}
-
-// Lays a letter and a line end.
-pub fn lay_letter(out: &mut [u8], letter: u8) -> usize
-    requires { length out.old ≡ line_bytes }
-    ensures { Wrote out.old 0 (letter ∷ 10 ∷ []) result out.new }
-{
-    let at = put_byte(out, 0, letter);
-    put_byte(out, at, b'\n')
+    lay_line(out, b'R', &[u32::from(refusal)])
 }

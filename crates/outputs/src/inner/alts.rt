@@ -7,8 +7,7 @@ ghost use Rattle.outputs.specs.Outputs.{alts_length, alts_words};
 
 use crate::inner::insert::insert_alt;
 use grouping::inner::places::{LEADERS, MARKS};
-use grouping::inner::traits::alternative_of;
-use setcheck::inner::read::config_count;
+use setcheck::inner::read::{config_at, config_count};
 
 // Puts an alternative among `count` rising words, if it is to be. How many are there then?
 fn add_if(words: &mut [u32], from: usize, count: usize, alternative: u32, found: bool) -> usize
@@ -29,12 +28,10 @@ pub fn write_alts(set: &[u32], scratch: &[u32], output: &mut [u32])
     words::clear(output);
     let count = config_count(set) as usize;
     let mut written = 0;
-    let mut place = 0;
-    while place < count {
+    for place in 0..count {
         let leader = scratch[LEADERS + place] as usize;
         let found = scratch[MARKS + leader] != 0;
-        written = add_if(output, 1, written, alternative_of(set, place), found);
-        place += 1;
+        written = add_if(output, 1, written, config_at(set, place).alt.0, found);
     }
     output[0] = written as u32;
 }

@@ -12,9 +12,7 @@ ghost use Rattle.outputs.specs.Written.{Ending, Listing};
 
 use crate::inner::insert::insert_alt;
 use grouping::inner::places::{LEADERS, MEMBERS};
-use grouping::inner::traits::alternative_of;
-use setcheck::inner::places::{CONFIG_WORDS, CONTEXT, FIRST_CONFIG, STATE};
-use setcheck::inner::read::config_count;
+use setcheck::inner::read::{config_at, config_count};
 
 // Writes the alternatives of the subset whose first config stands at a place. How many are there?
 pub fn write_members(
@@ -30,9 +28,10 @@ pub fn write_members(
 {
     let mut count = 0;
     let mut next = place + 1;
+    // Kept by no heap: the next member's place stands in the lent scratch, and the walk goes by these links.
     while next != 0 {
         let member = next - 1;
-        count = insert_alt(output, from, count, alternative_of(set, member));
+        count = insert_alt(output, from, count, config_at(set, member).alt.0);
         next = scratch[MEMBERS + member] as usize;
     }
     count
@@ -46,9 +45,9 @@ fn write_group(set: &[u32], scratch: &[u32], output: &mut [u32], at: usize, plac
     if scratch[LEADERS + place] as usize != place {
         return at;
     }
-    let from = FIRST_CONFIG + CONFIG_WORDS * place;
-    output[at] = set[from + STATE];
-    output[at + 1] = set[from + CONTEXT];
+    let config = config_at(set, place);
+    output[at] = config.state;
+    output[at + 1] = config.context.0;
     let count = write_members(set, scratch, output, at + 3, place);
     output[at + 2] = count as u32;
     at + 3 + count
@@ -64,9 +63,7 @@ pub fn write_groups(set: &[u32], scratch: &[u32], output: &mut [u32], subsets: u
     output[0] = subsets as u32;
     let count = config_count(set) as usize;
     let mut at = 1;
-    let mut place = 0;
-    while place < count {
+    for place in 0..count {
         at = write_group(set, scratch, output, at, place);
-        place += 1;
     }
 }

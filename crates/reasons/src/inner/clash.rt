@@ -1,7 +1,7 @@
-// A context by its place, and the alternatives of a clash, written.
+// The alternatives of a clash, written.
 ghost use Rattle.std.specs.Prelude.{◌≡◌, ◌∷◌, ◌<◌, length};
 ghost use Rattle.store.specs.Layout.{blank};
-ghost use Rattle.groups.specs.Layout.{config_at, config_count, most_configs, set_words_length};
+ghost use Rattle.groups.specs.Layout.{config_count};
 ghost use Rattle.grouping.specs.Alike.{alike_at};
 ghost use Rattle.grouping.specs.Leads.{FirstAlike};
 ghost use Rattle.grouping.specs.Led.{Lent};
@@ -12,15 +12,6 @@ ghost use Rattle.outputs.specs.Outputs.{alts_length, padded};
 use grouping::inner::lead::lead_all;
 use grouping::inner::traits::Alike;
 use outputs::inner::subsets::write_members;
-use setcheck::inner::places::{CONFIG_WORDS, CONTEXT, FIRST_CONFIG};
-
-// The context of a config.
-pub fn context_of(set: &[u32], place: usize) -> u32
-    requires { (length set.now ≡ set_words_length) × (place < most_configs) }
-    ensures { result ≡ (config_at set.now place).context }
-{
-    set[FIRST_CONFIG + CONFIG_WORDS * place + CONTEXT]
-}
 
 // Writes the alternatives of the subset whose first config stands at a place, and before them their count.
 pub fn write_clash(set: &[u32], scratch: &mut [u32], output: &mut [u32], place: usize)

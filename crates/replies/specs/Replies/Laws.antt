@@ -1,26 +1,22 @@
 -- What a call leaves, from what its parts leave. Nothing here has to be believed.
-use Rattle.std.specs.Prelude.{◌≡◌, List, [], ℕ, length, replicate}
+use Rattle.std.specs.Prelude.{◌≡◌, List, [], ◌∷◌, ◌++◌, ℕ, length, replicate, Result, Ok, Err, IsOk}
 use Rattle.std.proofs.Math.Path.{refl, sym}
 use Rattle.std.proofs.Common.{◌∙◌, eq-eqb, ne_eqb}
 use Rattle.words.specs.Refusals.{number}
-use Rattle.words.specs.declared.names.ContextId.{ContextId}
 use Rattle.words.specs.declared.refusals.Refusal.{Refusal}
 use Rattle.layout.specs.Store.{node_at}
 use Rattle.layout.specs.Layout.{scratch_words}
 use Rattle.layout.specs.Decode.{store_of}
 use Rattle.store.specs.Admit.{cleared}
-use Rattle.store.specs.Calls.{done, Left, asked}
+use Rattle.store.specs.Calls.{done, Left, asked, leaves, leaves_after, refused, context}
+use Rattle.store.specs.Asks.{Asks}
 use Rattle.contexts.specs.Replies.{merged}
 use Rattle.contexts.specs.declared.merges.Merged.{Merged}
-use Rattle.contexts.specs.declared.merges.Merged.TheVariants.{Number as Counted, Refused as notMerged}
-use Rattle.store.specs.Asks.{Asks}
-use Rattle.store.specs.declared.inner.admit.Admitted.{Admitted}
-use Rattle.store.specs.declared.inner.admit.Admitted.TheVariants.{Ready as ready, Refused as notReady}
 use Rattle.interning.specs.Replies.{numbered}
-use Rattle.interning.specs.declared.single.Numbered.{Numbered}
-use Rattle.interning.specs.declared.single.Numbered.TheVariants.{Number, Refused as notNumbered}
+use Rattle.interning.specs.declared.numbered.Numbered.{Numbered}
 use Rattle.lines.specs.Laid.{Wrote}
-use Rattle.lines.specs.Lines.{number_line, numbers_line, context_line, refusal_line, entries_line}
+use Rattle.lines.specs.Lines.{spaced_all, number_line, numbers_line, context_line, refusal_line, entries_line}
+use Rattle.lines.specs.Spread.{line_two}
 use Rattle.replies.specs.Replies.{Lent, lent, wiped, line_of, Printed, on_store}
 
 -- the reply x is laid in the buffer b, and the words are x's
@@ -57,37 +53,47 @@ on_store_lem b e x r u w v t z l p f g = record {
   words = rw (p.store, p.scratch, f, g);
 }
 
+-- a refusal's line
+pub replied_refused : (b e : List ℕ) (x : Left) (f : Refusal) (r : ℕ) (u w z : List ℕ) → leaves (refused (number f)) w z ≡ x
+    → Wrote b 0 (refusal_line (number f)) r u → Replied b e x r u w z
+unfolding line_of
+replied_refused b e x f r u w z l v = rw (← l) (record { wrote = v; store = refl; scratch = refl })
+
 -- ---- a call that may make a context
 
-module _ (b : List ℕ) (j : ℕ) (u : List ℕ) (a : Numbered) where
-  pub context_line_lem : (c : ContextId) (k : ℕ) → a ≡ Number c k → Wrote b 0 (numbers_line 67 c.0 k) j u → Wrote b 0 (left_line [] (numbered a [] [])) j u
-  unfolding line_of context_line
-  context_line_lem c k e v = rw e v
+pub replied_context : (b : List ℕ) (x : Left) (n c k r : ℕ) (u w z : List ℕ) → leaves_after n k (context c) w z ≡ x
+    → Wrote b 0 (67 ∷ spaced_all (c ∷ k ∷ []) ++ 10 ∷ []) r u → Replied b [] x r u w z
+unfolding line_of context_line
+replied_context b x n c k r u w z l v = rw (← l) (record { wrote = rw (line_two 67 c k) at v; store = refl; scratch = refl })
 
-  pub refusal_line_lem : (f : Refusal) (n : ℕ) → a ≡ notNumbered f → n ≡ number f → Wrote b 0 (number_line 82 n) j u → Wrote b 0 (left_line [] (numbered a [] [])) j u
+module _ (b : List ℕ) (j : ℕ) (u : List ℕ) (a : Result Numbered Refusal) where
+  pub context_line_lem : (d : Numbered) → a ≡ Ok d → Wrote b 0 (numbers_line 67 d.context.0 d.made) j u → Wrote b 0 (left_line [] (numbered a [] [])) j u
+  unfolding line_of context_line
+  context_line_lem d e v = rw e v
+
+  pub refusal_line_lem : (f : Refusal) (n : ℕ) → a ≡ Err f → n ≡ number f → Wrote b 0 (number_line 82 n) j u → Wrote b 0 (left_line [] (numbered a [] [])) j u
   unfolding line_of refusal_line
   refusal_line_lem f n e q v = rw e (rw q at v)
 
-pub replied_call : (b : List ℕ) (x : Left) (a : Numbered) (r : ℕ) (u w z : List ℕ) → numbered a w z ≡ x
+pub replied_call : (b : List ℕ) (x : Left) (a : Result Numbered Refusal) (r : ℕ) (u w z : List ℕ) → numbered a w z ≡ x
     → Wrote b 0 (left_line [] (numbered a [] [])) r u → Replied b [] x r u w z
-replied_call b x (Number c k) r u w z e v = rw (← e) (record { wrote = v; store = refl; scratch = refl })
-replied_call b x (notNumbered f) r u w z e v = rw (← e) (record { wrote = v; store = refl; scratch = refl })
+replied_call b x (Ok d) r u w z e v = rw (← e) (record { wrote = v; store = refl; scratch = refl })
+replied_call b x (Err f) r u w z e v = rw (← e) (record { wrote = v; store = refl; scratch = refl })
 
 -- the same of a merge, of which no line has the merges counted
-pub replied_merge : (b : List ℕ) (x : Left) (a : Merged) (line : List ℕ) (r : ℕ) (u w z : List ℕ) → merged a w z ≡ x → line ≡ left_line [] (merged a [] [])
-    → Wrote b 0 line r u → Replied b [] x r u w z
-replied_merge b x (Counted c k) line r u w z e q v = rw (← e) (record { wrote = rw q at v; store = refl; scratch = refl })
-replied_merge b x (notMerged f) line r u w z e q v = rw (← e) (record { wrote = rw q at v; store = refl; scratch = refl })
+pub replied_merge : (b : List ℕ) (x : Left) (a : Result Merged Refusal) (line : List ℕ) (r : ℕ) (u w z : List ℕ) → merged a w z ≡ x
+    → line ≡ left_line [] (merged a [] []) → Wrote b 0 line r u → Replied b [] x r u w z
+replied_merge b x (Ok d) line r u w z e q v = rw (← e) (record { wrote = rw q at v; store = refl; scratch = refl })
+replied_merge b x (Err f) line r u w z e q v = rw (← e) (record { wrote = rw q at v; store = refl; scratch = refl })
 
 -- ---- the entries of a context
 
-module _ {w z : List ℕ} {c : ℕ} {a : Admitted} {y : List ℕ} (v : Asks w z c a y) (b : List ℕ) (r : ℕ) (u : List ℕ) where
-  pub show_refused : (f : Refusal) → a ≡ notReady f → (n : ℕ) → n ≡ number f → Wrote b 0 (number_line 82 n) r u
+module _ {A : Type 0} {w z : List ℕ} {c : ℕ} {a : Result A Refusal} {y : List ℕ} (v : Asks w z c a y) (b : List ℕ) (r : ℕ) (u : List ℕ) where
+  pub show_refused : (f : Refusal) → a ≡ Err f → Wrote b 0 (refusal_line (number f)) r u
       → Replied b (entries_line (node_at (store_of w) c)) (asked w z c done) r u w y
-  unfolding line_of refusal_line
-  show_refused f e n q p = rw (← v.refuses f e done) (record { wrote = rw q at p; store = refl; scratch = refl })
+  show_refused f e p = replied_refused b _ _ f r u w y (v.refuses f e done) p
 
-  pub show_done : a ≡ ready → Wrote b 0 (entries_line (node_at (store_of w) c)) r u
+  pub show_done : IsOk a → Wrote b 0 (entries_line (node_at (store_of w) c)) r u
       → Replied b (entries_line (node_at (store_of w) c)) (asked w z c done) r u w y
   unfolding line_of
   show_done e p = rw (← v.replies e done) (record { wrote = p; store = refl; scratch = refl })

@@ -7,19 +7,12 @@ ghost use Rattle.setcheck.specs.Judged.{JudgedConfigs, JudgedConfig, PassedConfi
 
 use crate::config::AtnConfig;
 use crate::inner::flags::joined_flags;
-use crate::inner::keys::{KeyPlace, find_key, key_bucket, link_key};
+use crate::inner::keys::{bucket_of, find_key, key_of, link_key};
 use crate::inner::places::{
     CONFIG_WORDS, DECIDED_FLAGS, FIRST_CONFIG, FLAGS_END, KEY_HEADS, KEY_LINKS, MOST_CONFIGS,
     SET_WORDS,
 };
 use crate::inner::read::{config_at, config_count, flag_word};
-
-// The flags that the configs ask for, or a config that is not sound.
-#[derive(Clone, Copy)]
-pub enum Checked {
-    Flags(u32),
-    Bad,
-}
 
 // Is a config, after those before it, one of a known context and a new key? Then its key is chained.
 fn check_config(
@@ -35,31 +28,28 @@ fn check_config(
     if contexts <= config.context.0 {
         return false;
     }
-    let bucket = key_bucket(config);
-    let found = find_key(set, scratch, place, config, bucket);
-    let KeyPlace::At(_) = found else {
-        link_key(scratch, place, bucket);
-        return true;
-    };
-    false
+    let bucket = bucket_of(key_of(config));
+    if find_key(set, scratch, place, config, bucket).is_some() {
+        return false;
+    }
+    link_key(scratch, place, bucket);
+    true
 }
 
-// Judges the configs, the first to the last.
-fn check_configs(set: &[u32], scratch: &mut [u32], contexts: u32, count: usize) -> Checked
+// Judges the configs, the first to the last: the flags that they ask for, or None where one is not sound.
+fn check_configs(set: &[u32], scratch: &mut [u32], contexts: u32, count: usize) -> Option<u32>
     requires { PassedConfigs set.now scratch.old contexts 0 × (count ≤ most_configs) }
     ensures { JudgedConfigs set.now scratch.old contexts count result scratch.new }
 {
     let mut flags: u32 = 0;
-    let mut place = 0;
-    while place < count {
+    for place in 0..count {
         let config = config_at(set, place);
         if !check_config(set, scratch, contexts, place, config) {
-            return Checked::Bad;
+            return None;
         }
         flags = joined_flags(flags, config);
-        place += 1;
     }
-    Checked::Flags(flags)
+    Some(flags)
 }
 
 // Is the set sound with a store of so many contexts? Then its keys are chained in the scratch.
@@ -72,8 +62,7 @@ pub fn check_set(set: &[u32], scratch: &mut [u32], contexts: u32) -> bool
         return false;
     }
     words::clear_range(scratch, KEY_HEADS, KEY_LINKS);
-    let checked = check_configs(set, scratch, contexts, count);
-    let Checked::Flags(flags) = checked else {
+    let Some(flags) = check_configs(set, scratch, contexts, count) else {
         return false;
     };
     let held = flag_word(set);

@@ -1,5 +1,5 @@
 -- What a step leaves, from what its parts leave. Nothing here has to be believed.
-use Rattle.std.specs.Prelude.{◌≡◌, refl, List, [], ℕ, ◌<◌, ◌≤◌, length}
+use Rattle.std.specs.Prelude.{◌≡◌, List, [], ℕ, ◌<◌, ◌≤◌, length}
 use Rattle.std.proofs.Common.{sym, ◌∙◌, arith, lt-ltb, le-ltb}
 use Rattle.std.proofs.Math.Path.{ap}
 use Rattle.format.specs.Format.{Reading, found, ended, malformed, read_at, Record as Call}

@@ -1,17 +1,23 @@
 // The checks of a call that only reads.
+ghost use Rattle.std.specs.Prelude.{◌≡◌, IfOk};
 ghost use Rattle.store.specs.Asks.{Asks};
 
-use crate::inner::admit::{Admitted, admit};
-use words::ContextId;
+use crate::inner::admit::admit;
+use layout::StoreWords;
+use words::{ContextId, Refusal};
 
 // Checks lengths, soundness and that a context is known. The index is not needed after that: the scratch is cleared.
-pub fn ask(store: &[u32], scratch: &mut [u32], context: ContextId) -> Admitted
-    ensures { Asks store.now scratch.old context.0 result scratch.new }
+pub fn ask<'a>(
+    store: &'a [u32],
+    scratch: &mut [u32],
+    context: ContextId,
+) -> Result<&'a StoreWords, Refusal>
+    ensures asked { Asks store.now scratch.old context.0 result scratch.new }
+    ensures same { IfOk result (λ words. words.now ≡ store.now) }
 {
-    let admitted = admit(store, scratch, context);
-    let Admitted::Ready = admitted else {
-        return admitted;
-    };
+    let store = store.as_array().ok_or(Refusal::WrongLength)?;
+    let scratch = scratch.as_mut_array().ok_or(Refusal::WrongLength)?;
+    admit(store, scratch, context)?;
     words::clear(scratch);
-    Admitted::Ready
+    Ok(store)
 }

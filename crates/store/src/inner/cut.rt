@@ -1,13 +1,13 @@
 // A store cut back to an earlier count and pool.
-ghost use Rattle.std.specs.Prelude.{◌≡◌, ◌≤◌, length};
+ghost use Rattle.std.specs.Prelude.{◌≡◌, ◌≤◌};
 ghost use Rattle.encoding.specs.Cut.{cut};
-ghost use Rattle.layout.specs.Layout.{most_contexts, most_entries, store_words};
+ghost use Rattle.layout.specs.Layout.{most_contexts, most_entries};
 
-use layout::{PARENTS, RECORDS, STATES, STORE_WORDS, put_counts};
+use layout::{PARENTS, RECORDS, STATES, STORE_WORDS, StoreWords, put_counts};
 
 // Takes out all records from `count` on and all pool entries from `used` on.
-pub fn cut_back(store: &mut [u32], count: usize, used: usize)
-    requires { (length store.old ≡ store_words) × (count ≤ most_contexts) × (used ≤ most_entries) }
+pub fn cut_back(store: &mut StoreWords, count: usize, used: usize)
+    requires { (count ≤ most_contexts) × (used ≤ most_entries) }
     ensures { store.new ≡ cut store.old count used }
 {
     words::clear_range(store, RECORDS + 3 * count, PARENTS);

@@ -1,19 +1,21 @@
 // The figures of the set, laid out.
-ghost use Rattle.std.specs.Prelude.{◌≡◌, ◌+◌, ◌-◌, ◌≤◌, drop, get_or, length, take};
+ghost use Rattle.std.specs.Prelude.{◌≡◌, ◌+◌, ◌≤◌, drop, get_or, length, take};
 ghost use Rattle.lines.specs.Answers.{none};
 ghost use Rattle.deciding.specs.OneAlt.{one_alt};
 ghost use Rattle.figures.specs.VerdictsCalls.{summary};
 ghost use Rattle.figures.specs.Calls.{figures_call};
 ghost use Rattle.figures.specs.Replies.{summary_of};
 ghost use Rattle.lines.specs.Laid.{Wrote};
-ghost use Rattle.lines.specs.Lines.{alternative_bytes, line_bytes, spaced, verdict_bytes};
+ghost use Rattle.lines.specs.Lines.{alternative_bytes, spaced, verdict_bytes};
 ghost use Rattle.replies.specs.Replies.{held_stops, verdict_line_of};
-ghost use Rattle.verdictreplies.specs.Figured.{Piece, Told as FiguresTold, stop_length};
+ghost use Rattle.verdictreplies.specs.Figured.{Piece, Told};
 
-use deciding::inner::single::OneAlt;
-use figures::{Figures, Told};
+use figures::Figures;
+use lines::LINE_BYTES;
 use lines::inner::digits::{put_byte, put_spaced};
-use lines::inner::numbers::lay_number;
+use lines::inner::numbers::lay_refusal;
+use replies::inner::stops::STOP_WORDS;
+use words::Alternative;
 
 // Lays a space and a number, where there is room for any.
 pub fn put_number(out: &mut [u8], at: usize, n: u32) -> usize
@@ -33,13 +35,13 @@ fn put_none(out: &mut [u8], at: usize) -> usize
 }
 
 // Lays an alternative, or that there is none: alternative 0 is one.
-fn put_alternative(out: &mut [u8], at: usize, found: OneAlt) -> usize
+fn put_alternative(out: &mut [u8], at: usize, found: Option<Alternative>) -> usize
     requires { at + 11 ≤ length out.old }
     ensures { Piece out.old at (alternative_bytes (one_alt found)) result out.new }
 {
     match found {
-        OneAlt::Only(alternative) => put_number(out, at, alternative.0),
-        OneAlt::Nothing => put_none(out, at),
+        Some(alternative) => put_number(out, at, alternative.0),
+        None => put_none(out, at),
     }
 }
 
@@ -48,56 +50,43 @@ fn put_verdict(out: &mut [u8], at: usize, verdict: bool) -> usize
     requires { at + 11 ≤ length out.old }
     ensures { Piece out.old at (verdict_bytes verdict) result out.new }
 {
-    if verdict {
-        return put_number(out, at, 1);
-    }
-    put_number(out, at, 0)
+    put_number(out, at, u32::from(verdict))
 }
 
 // Lays the line of all figures.
-fn lay_figures(out: &mut [u8], all: Figures) -> usize
-    requires { length out.old ≡ line_bytes }
+fn lay_figures(out: &mut [u8; LINE_BYTES], all: Figures) -> usize
     ensures { Wrote out.old 0 (verdict_line_of (summary (summary_of all))) result out.new }
 {
-    let unique = all.unique;
-    let viable = all.viable;
     let at = put_byte(out, 0, b'V');
     let at = put_number(out, at, all.subsets);
-    let at = put_alternative(out, at, unique);
-    let at = put_alternative(out, at, viable);
+    let at = put_alternative(out, at, all.unique);
+    let at = put_alternative(out, at, all.viable);
     let at = put_verdict(out, at, all.verdict);
     put_byte(out, at, b'\n')
 }
 
-// Where a list ends whose first word is its length; a number above that of the other words has them all.
-pub fn held_to(list: &[u32]) -> usize
+// The words that a list holds, whose first word says how many; a number above that of the other words has them all.
+pub fn held(list: &[u32]) -> &[u32]
     requires { 1 ≤ length list.now }
-    ensures { (1 ≤ result) × (result ≤ length list.now)
-        × (take (result - 1) (drop 1 list.now) ≡ take (get_or list.now 0 0) (drop 1 list.now)) }
+    ensures { result.now ≡ take (get_or list.now 0 0) (drop 1 list.now) }
 {
-    let count = list[0] as usize;
-    if list.len() <= count {
-        return list.len();
-    }
-    1 + count
+    let end = 1 + list[0] as usize;
+    &list[1..end.min(list.len())]
 }
 
 // Lays out the figures of the set, with these stop states, or the refusal.
 pub fn verdict(
     store: &[u32],
     set: &[u32],
-    stops: &[u32],
+    stops: &[u32; STOP_WORDS],
     scratch: &mut [u32],
-    out: &mut [u8],
+    out: &mut [u8; LINE_BYTES],
 ) -> usize
-    requires { (length out.old ≡ line_bytes) × (length stops.now ≡ stop_length) }
-    ensures { FiguresTold out.old (figures_call store.now set.now scratch.old (held_stops stops.now))
+    ensures { Told out.old (figures_call store.now set.now scratch.old (held_stops stops.now))
         result out.new scratch.new }
 {
-    let end = held_to(stops);
-    let told = figures::figures(store, set, scratch, &stops[1..end]);
-    match told {
-        Told::All(all) => lay_figures(out, all),
-        Told::Refused(refusal) => lay_number(out, b'R', words::refusal_number(refusal)),
+    match figures::figures(store, set, scratch, held(stops)) {
+        Ok(all) => lay_figures(out, all),
+        Err(refusal) => lay_refusal(out, refusal),
     }
 }

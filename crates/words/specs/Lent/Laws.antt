@@ -188,6 +188,15 @@ all_zero_more ws from i h k =
     ∙ ap (λ (b : Bool). are_zeros (take j rest) && b) (and-true (slice_index rest j == 0))
     ∙ ap (λ (w : ℕ). are_zeros (take j rest) && w == 0) (get_or-drop from ws j 0 ∙ ap (λ (m : ℕ). slice_index ws m) at)
 
+-- one word more of a list that is walked from its start
+pub are_zeros_more : (ws : List ℕ) (i : ℕ) → i < length ws → are_zeros (take (i + 1) ws) ≡ (are_zeros (take i ws) && slice_index ws i == 0)
+unfolding are_zeros
+are_zeros_more ws i h =
+    ap (λ (n : ℕ). are_zeros (take n ws)) (add-one i)
+    ∙ ap are_zeros (take-suc ws i 0 h)
+    ∙ zeros_append (take i ws) (slice_index ws i ∷ [])
+    ∙ ap (λ (b : Bool). are_zeros (take i ws) && b) (and-true (slice_index ws i == 0))
+
 pub all_zero_at : (ws : List ℕ) (from to : ℕ) → all_zero ws from to ≡ true → (j : ℕ) → from ≤ j → j < to → slice_index ws j ≡ 0
 unfolding all_zero
 all_zero_at ws from to e j h k =

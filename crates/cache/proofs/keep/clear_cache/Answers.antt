@@ -6,4 +6,4 @@ use Rattle.cache.proofs.keep.clear_cache.Goals as goal
 pub returns : goal.returns
 unfolding cleared_cache
 returns c =
-    rw c.clear_range.ensures (cleared_emptied c.args.scratch.now c.requires)
+    rw c.clear_range.ensures (cleared_emptied c.args.scratch.now c.told-scratch)

@@ -1,52 +1,61 @@
 -- The checks in their order; each refusal is what the definition leaves.
-use borrow.Author.Rules.{rules}
-use native.Mathlib.Omega.{arith}
 use mathlib.Core.Path.{◌≡◌, sym, ◌∙◌}
-use Rattle.store.specs.declared.inner.admit.Admitted.TheVariants.{Ready as ready, Refused}
+use Rattle.std.proofs.lemmas.Result.{err_from_is_err_and}
+use Rattle.words.specs.declared.refusals.Refusal.TheVariants.{WrongLength}
 use Rattle.setcheck.specs.Configs.{config_of}
-use Rattle.configs.proofs.Adds.{add_refused, add_closed, add_unknown, add_addable, add_done}
+use Rattle.setcheck.specs.Opened.{short_lent_store, short_lent_scratch}
+use Rattle.configs.proofs.Adds.{add_refused, add_closed, add_unknown, add_done}
 use Rattle.configs.proofs.adding.add.Goals as goal
 
-pub returns-in-Refused : goal.returns-in-Refused
-returns-in-Refused c =
-    let open-set = c.open_set-opened in
-    let args = c.args in
-    let e : open-set.result ≡ Refused c.in-Refused.refusal = cc in
-    add_refused args.store.now args.set.now args.scratch.now open-set.new.scratch (config_of args.config) c.in-Refused.refusal (rw e at open-set.ensures)
+pub returns-in_err-store : goal.returns-in_err-store
+returns-in_err-store c =
+    let a = c.args in
+    let off = c.in_err-store in
+    let f : off.field-0.0 ≡ WrongLength = let v = rw off.ensures.ok_part at off.ensures.value in cc in
+    let p = err_from_is_err_and c.from_residual.result c.from_residual.ensures.1 in
+    rw (p.1, p.2, f) (add_refused a.store.now a.set.now a.scratch.now a.scratch.now (config_of a.config) WrongLength
+    (short_lent_store a.store.now a.set.now a.scratch.now (rw off.ensures.ok_part at c.as_mut_array.ensures.cases)))
+
+pub returns-in_err-scratch : goal.returns-in_err-scratch
+returns-in_err-scratch c =
+    let a = c.args in
+    let w = rw c.in_ok-store.ensures.ok_part at c.as_mut_array.ensures.cases in
+    let off = c.in_err-scratch in
+    let f : off.field-0.0 ≡ WrongLength = let v = rw off.ensures.ok_part at off.ensures.value in cc in
+    let p = err_from_is_err_and c.from_residual-in_err-scratch.result c.from_residual-in_err-scratch.ensures.1 in
+    rw (p.1, p.2, f, w.same) (add_refused a.store.now a.set.now a.scratch.now a.scratch.now (config_of a.config) WrongLength
+    (short_lent_scratch a.store.now a.set.now a.scratch.now (rw off.ensures.ok_part at c.as_mut_array-2.ensures.cases)))
+
+pub returns-in_err-open_set : goal.returns-in_err-open_set
+returns-in_err-open_set c =
+    let w = rw c.in_ok-store.ensures.ok_part at c.as_mut_array.ensures.cases in
+    let z = rw c.in_ok-scratch.ensures.ok_part at c.as_mut_array-2.ensures.cases in
+    let p = err_from_is_err_and c.from_residual-in_err-open_set.result c.from_residual-in_err-open_set.ensures.1 in
+    rw (p.1, p.2, ← w.same, ← z.same)
+    (add_refused _ c.args.set.now _ c.open_set.new.scratch (config_of c.args.config) _ (rw c.in_err-open_set.was at c.open_set.ensures))
 
 pub returns-then-has_flag : goal.returns-then-has_flag
 returns-then-has_flag c =
-    let open-set = c.open_set-opened in
-    let args = c.args in
-    let has-flag = c.has_flag in
-    let if1 = c.if-has_flag in
-    let clear = c.clear in
-    let e : open-set.result ≡ ready = c.in_default.is in
-    add_closed args.store.now args.set.now args.scratch.now open-set.new.scratch (config_of args.config) (rw e at open-set.ensures)
-    (sym has-flag.ensures ∙ if1.true) clear.new.words clear.ensures
+    let w = rw c.in_ok-store.ensures.ok_part at c.as_mut_array.ensures.cases in
+    let z = rw c.in_ok-scratch.ensures.ok_part at c.as_mut_array-2.ensures.cases in
+    rw (← w.same, ← z.same)
+    (add_closed _ c.args.set.now _ c.open_set.new.scratch (config_of c.args.config) (rw c.in_ok-open_set.was at c.open_set.ensures)
+    (sym c.has_flag.ensures ∙ c.if-has_flag.true) c.clear.new.words c.clear.ensures)
 
 pub returns-then-count_of-config : goal.returns-then-count_of-config
 returns-then-count_of-config c =
-    let open-set = c.open_set-opened in
-    let args = c.args in
-    let has-flag = c.has_flag in
-    let if1 = c.if-has_flag in
-    let count_of = c.count_of in
-    let if2 = c.if-count_of-config in
-    let clear2 = c.clear-then-count_of-config in
-    let e : open-set.result ≡ ready = c.in_default.is in
-    add_unknown args.store.now args.set.now args.scratch.now open-set.new.scratch (config_of args.config) (rw e at open-set.ensures)
-    (sym has-flag.ensures ∙ if1.false) (rw count_of.ensures at if2.true) clear2.new.words clear2.ensures
+    let w = rw c.in_ok-store.ensures.ok_part at c.as_mut_array.ensures.cases in
+    let z = rw c.in_ok-scratch.ensures.ok_part at c.as_mut_array-2.ensures.cases in
+    let clear = c.clear-then-count_of-config in
+    rw (← w.same, ← z.same)
+    (add_unknown _ c.args.set.now _ c.open_set.new.scratch (config_of c.args.config) (rw c.in_ok-open_set.was at c.open_set.ensures)
+    (sym c.has_flag.ensures ∙ c.if-has_flag.false) (rw c.count_of.ensures at c.if-count_of-config.true) clear.new.words clear.ensures)
 
 pub returns : goal.returns
 returns c =
-    let open-set = c.open_set-opened in
-    let add-known = c.add_known in
-    let args = c.args in
-    let has-flag = c.has_flag in
-    let if1 = c.if-has_flag in
-    let if2 = c.if-count_of-config in
-    let e : open-set.result ≡ ready = c.in_default.is in
-    add-known.ensures
-    ∙ add_done args.store.now args.set.now args.scratch.now open-set.new.scratch (config_of args.config) (rw e at open-set.ensures)
-    (sym has-flag.ensures ∙ if1.false) (rw c.count_of.ensures at if2.false)
+    let w = rw c.in_ok-store.ensures.ok_part at c.as_mut_array.ensures.cases in
+    let z = rw c.in_ok-scratch.ensures.ok_part at c.as_mut_array-2.ensures.cases in
+    rw (← w.same, ← z.same)
+    (c.add_known.ensures
+    ∙ add_done _ c.args.set.now _ c.open_set.new.scratch (config_of c.args.config) (rw c.in_ok-open_set.was at c.open_set.ensures)
+    (sym c.has_flag.ensures ∙ c.if-has_flag.false) (rw c.count_of.ensures at c.if-count_of-config.false))

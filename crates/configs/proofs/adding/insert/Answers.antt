@@ -1,7 +1,4 @@
 -- There is no room, or the config, the count and the flags are written.
-use borrow.Author.Rules.{rules}
-use native.Mathlib.Omega.{arith}
-use lib.ListN.{length-set}
 use Rattle.setcheck.specs.Configs.{config_of}
 use Rattle.configs.proofs.Inserts.{insert_full, insert_done}
 use Rattle.configs.proofs.adding.insert.Goals as goal

@@ -1,8 +1,7 @@
 -- Field by field.
-use borrow.Author.Rules.{rules}
 use Rattle.sets.specs.Sets.{joined}
 use Rattle.configs.proofs.joining.joined_config.Goals as goal
 
 pub returns : goal.returns
 unfolding joined
-returns c = rw (c.larger.ensures, c.merge_marks.ensures)
+returns c = rw (c.merge_marks.ensures, c.max.ensures)

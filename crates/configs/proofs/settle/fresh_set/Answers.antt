@@ -1,5 +1,4 @@
 -- A wrong length, then zeros, with flag 1 where it is asked for.
-use borrow.Author.Rules.{rules}
 use Rattle.configs.specs.Settles.{fresh_short, fresh_plain, fresh_full}
 use Rattle.configs.proofs.settle.fresh_set.Goals as goal
 
@@ -16,8 +15,8 @@ returns-then-full_context c =
     let e = c.if-full_context.true in
     rw e (fresh_full args.set.now if1.false clear.new.words clear.ensures)
 
-pub returns : goal.returns
-returns c =
+pub returns-else-full_context : goal.returns-else-full_context
+returns-else-full_context c =
     let args = c.args in
     let if1 = c.if-set-ne-SET_WORDS in
     let clear = c.clear in

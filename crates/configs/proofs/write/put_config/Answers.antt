@@ -1,8 +1,5 @@
 -- Word after word.
-use borrow.Author.Rules.{rules}
 use mathlib.Core.Path.{refl}
-use native.Mathlib.Omega.{arith}
-use lib.ListN.{length-set}
 use Rattle.sets.specs.Layout.{fields}
 use Rattle.configs.specs.Writes.{put_config, put_fields}
 use Rattle.configs.proofs.write.put_config.Goals as goal

@@ -14,18 +14,18 @@ entry-taken-requires c =
     let loop = c.loop-next in
     let pre = c.requires.0 in
     let args = c.args in
-    (live_known pre.live args.context.0 pre.known, omega (arith, loop.invariant.1))
+    (live_known pre.live args.context.0 pre.known, omega (arith, loop.invariant.0))
 
 pub loop-next-preserved : goal.loop-next-preserved
 loop-next-preserved c =
     let put-entry = c.put_entry in
     let entry = c.entry-taken in
     let loop = c.loop-next in
-    let more = tail_turn loop.invariant.2 (omega (arith, loop.invariant.1)) entry.ensures.0 entry.ensures.1 _ put-entry.ensures in
-    (more.now.live.index.sized, loop.invariant.1, more)
+    let more = tail_turn loop.invariant.1 (omega (arith, loop.invariant.0)) entry.ensures.0 entry.ensures.1 _ put-entry.ensures in
+    (loop.invariant.0, more)
 
 pub returns : goal.returns
 returns c =
     let intern-entries = c.intern_entries in
     let loop = c.loop-next in
-    finished loop.invariant.2 (omega (arith, loop.invariant.1)) intern-entries.result intern-entries.new.store intern-entries.new.scratch intern-entries.ensures
+    finished loop.invariant.1 (omega (arith, loop.invariant.0)) intern-entries.result intern-entries.new.store intern-entries.new.scratch intern-entries.ensures

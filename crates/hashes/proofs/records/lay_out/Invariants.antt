@@ -1,12 +1,8 @@
 -- `lay_out` leaves `list_in`. The loop's invariant: the first i words are laid out, and each store adds one at the end.
 use mathlib.Core.Path.{◌≡◌}
-use Prim.Native.Nat.{◌-◌, ◌≤◌}
 use lib.ListN.{length, take}
 use Rattle.hashes.specs.Records.{list_in}
 use Rattle.hashes.proofs.records.lay_out.Given as goal
 
 abbrev pub invariant-loop-i : goal.invariant-loop-i
-invariant-loop-i l = (l.i ≤ length l.initial.list) × (length l.list ≡ length l.initial.list) × (take l.i l.list ≡ list_in l.bytes l.i)
-
-abbrev pub decreases-loop-i : goal.decreases-loop-i
-decreases-loop-i l = length l.initial.list - l.i
+invariant-loop-i l = (length l.list ≡ length l.initial.list) × (take l.i l.list ≡ list_in l.bytes l.i)

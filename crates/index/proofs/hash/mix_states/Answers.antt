@@ -8,13 +8,11 @@ pub loop-i-preserved : goal.loop-i-preserved
 loop-i-preserved c =
     let args = c.args in
     let pre = c.requires in
-    let loop = c.loop-i in (
-      omega arith,
-      loop.invariant.1 ∙ states_turn (λ x. x) args.scratch.now args.at args.n 512 loop.i pre (omega arith) loop.hash ∙
-          rw (c.mix-hash.ensures, c.stack_state-state.ensures),
-    )
+    let loop = c.loop-i in
+    loop.invariant ∙ states_turn (λ x. x) args.scratch.now args.at args.n 512 loop.i pre (omega arith) loop.hash ∙
+    rw (c.mix-hash.ensures, c.from.ensures, c.stack_entry-state.ensures)
 
 pub returns : goal.returns
 returns c =
     let args = c.args in
-    sym (c.loop-i.invariant.1 ∙ states_end args.scratch.now args.at args.n c.loop-i.i c.loop-i.hash (omega arith))
+    sym (c.loop-i.invariant ∙ states_end args.scratch.now args.at args.n c.loop-i.i c.loop-i.hash (omega arith))

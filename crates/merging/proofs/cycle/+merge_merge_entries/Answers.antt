@@ -1,11 +1,12 @@
 -- The needs of the two members: those of `merge` are lemmas of specs/Beginning, those of `merge_entries` of specs/Turns; the right side's are
 -- the left's with the sides exchanged.
 use native.Mathlib.Omega.{arith}
+use Rattle.std.proofs.lemmas.Result.{err_from_is_err_and}
 use Rattle.merging.specs.Standing.{state_of}
 use Rattle.merging.proofs.Beginning.{asked, equal_sides, hit, too_much_lem, counted_apart, swallowed, merged_few, remembered, refused_inside}
 use Rattle.entries.specs.Rest.{live_known}
 use Rattle.merging.proofs.Walking.{exchanged}
-use Rattle.merging.proofs.Turns.{Heads, heads_exchanged, sides_exchanged, go_start, left_known, left_is, right_there, rest_left, left_ended, slot, take_lower, parents_fall, inner, take_equal, inner_refused, walked_even}
+use Rattle.merging.proofs.Turns.{heads_at, heads_exchanged, sides_exchanged, go_start, left_known, left_is, right_there, rest_left, left_ended, slot, take_lower, parents_fall, inner, take_equal, inner_refused, walked_even}
 use Rattle.merging.proofs.cycle.+merge_merge_entries.Goals as goal
 
 pub merge-returns-then-left-right : goal.merge-returns-then-left-right
@@ -13,15 +14,15 @@ merge-returns-then-left-right t c =
     let if1 = c.if-left-right in
     let pre = c.requires in
     let args = c.args in
-    (equal_sides pre args.root_is_wildcard if1.true, omega arith)
+    rw c.found.ensures (equal_sides pre args.root_is_wildcard if1.true, omega arith)
 
-pub merge-returns-in-As : goal.merge-returns-in-As
-merge-returns-in-As t c =
+pub merge-returns-in-Some : goal.merge-returns-in-Some
+merge-returns-in-Some t c =
     let cached = c.cached-known in
     let if1 = c.if-left-right in
     let pre = c.requires in
     let args = c.args in
-    (hit pre if1.false args.root_is_wildcard cached.result cached.ensures c.in-As.context c.in-As.is, omega arith)
+    rw c.found-in-Some.ensures (hit pre if1.false args.root_is_wildcard cached.result cached.ensures c.in-Some.context c.in-Some.is, omega arith)
 
 pub merge-returns-then-not-count_merge : goal.merge-returns-then-not-count_merge
 merge-returns-then-not-count_merge t c =
@@ -54,14 +55,15 @@ merge-returns-then-swallows t c =
     let cached = c.cached-known in
     let if1 = c.if-left-right in
     let pre = c.requires in
-    let args = c.args in (
+    let args = c.args in
+    rw c.found-then-swallows.ensures (
       swallowed pre if1.false args.root_is_wildcard cached.result cached.ensures c.in_default.is
           count-merge.new.scratch (rw c.if-not-count_merge.false at c.count_merge.ensures) (rw if3.true at swallows.ensures) remember.new.scratch remember.ensures,
       omega arith,
     )
 
-pub merge-merge_entries-merged-requires : goal.merge-merge_entries-merged-requires
-merge-merge_entries-merged-requires t c =
+pub merge-merge_entries-requires : goal.merge-merge_entries-requires
+merge-merge_entries-requires t c =
     let count-merge = c.count_merge in
     let cached = c.cached-known in
     let if1 = c.if-left-right in
@@ -72,24 +74,20 @@ merge-merge_entries-merged-requires t c =
           count-merge.new.scratch (rw c.if-not-count_merge.false at c.count_merge.ensures),
     )
 
-pub merge-returns-in_default-merged : goal.merge-returns-in_default-merged
-merge-returns-in_default-merged t c =
-    let merge-entries = c.merge_entries-merged in
-    let if3 = c.if-swallows in
-    let swallows = c.swallows in
-    let count-merge = c.count_merge in
+pub merge-returns-in_err-merged : goal.merge-returns-in_err-merged
+merge-returns-in_err-merged t c =
+    let merge-entries = c.merge_entries in
     let cached = c.cached-known in
-    let if1 = c.if-left-right in
-    let pre = c.requires in
-    let args = c.args in
-    let below = refused_inside pre if1.false args.root_is_wildcard cached.result cached.ensures c.in_default.is
-    count-merge.new.scratch (rw c.if-not-count_merge.false at c.count_merge.ensures) (rw if3.false at swallows.ensures) c.in_default-merged.field-0
-    merge-entries.new.store merge-entries.new.scratch (rw c.in_default-merged.is at merge-entries.ensures) in
-    rw c.in_default-merged.is below
+    let p = err_from_is_err_and c.from_residual.result c.from_residual.ensures.1 in
+    rw (p.1, p.2)
+    (refused_inside c.requires c.if-left-right.false c.args.root_is_wildcard cached.result cached.ensures c.in_default.is
+    c.count_merge.new.scratch (rw c.if-not-count_merge.false at c.count_merge.ensures) (rw c.if-swallows.false at c.swallows.ensures) _
+    merge-entries.new.store merge-entries.new.scratch (rw c.in_err-merged.was at merge-entries.ensures))
 
 pub merge-remember-requires-2 : goal.merge-remember-requires-2
 merge-remember-requires-2 t c =
-    let merge-entries = c.merge_entries-merged in
+    let merge-entries = c.merge_entries in
+    let ended = rw c.in_ok-merged.was at merge-entries.ensures in
     let if3 = c.if-swallows in
     let swallows = c.swallows in
     let count-merge = c.count_merge in
@@ -98,17 +96,18 @@ merge-remember-requires-2 t c =
     let pre = c.requires in
     let args = c.args in
     let few = merged_few pre if1.false args.root_is_wildcard cached.result cached.ensures c.in_default.is
-    count-merge.new.scratch (rw c.if-not-count_merge.false at c.count_merge.ensures) (rw if3.false at swallows.ensures) c.in-Number.context.0
-    merge-entries.new.store merge-entries.new.scratch c.in-Number.ensures.0 in
+    count-merge.new.scratch (rw c.if-not-count_merge.false at c.count_merge.ensures) (rw if3.false at swallows.ensures) c.in_ok-merged.merged.context.0
+    merge-entries.new.store merge-entries.new.scratch ended.0 in
     let sides = asked pre in (
-      record { sized = c.in-Number.ensures.0.live.index.sized; sound = c.in-Number.ensures.0.cache; left = sides.left; right = sides.right },
+      record { sized = ended.0.live.index.sized; sound = ended.0.cache; left = sides.left; right = sides.right },
       few,
     )
 
 pub merge-returns : goal.merge-returns
 merge-returns t c =
     let remember2 = c.remember-2 in
-    let merge-entries = c.merge_entries-merged in
+    let merge-entries = c.merge_entries in
+    let ended = rw c.in_ok-merged.was at merge-entries.ensures in
     let if3 = c.if-swallows in
     let swallows = c.swallows in
     let count-merge = c.count_merge in
@@ -117,9 +116,9 @@ merge-returns t c =
     let pre = c.requires in
     let args = c.args in (
       remembered pre if1.false args.root_is_wildcard cached.result cached.ensures c.in_default.is
-          count-merge.new.scratch (rw c.if-not-count_merge.false at c.count_merge.ensures) (rw if3.false at swallows.ensures) c.in-Number.context.0
-          merge-entries.new.store merge-entries.new.scratch c.in-Number.ensures.0 remember2.new.scratch remember2.ensures,
-      c.in-Number.ensures.1,
+          count-merge.new.scratch (rw c.if-not-count_merge.false at c.count_merge.ensures) (rw if3.false at swallows.ensures) c.in_ok-merged.merged.context.0
+          merge-entries.new.store merge-entries.new.scratch ended.0 remember2.new.scratch remember2.ensures,
+      ended.1,
     )
 
 pub merge_entries-entry_count-left_len-requires : goal.merge_entries-entry_count-left_len-requires
@@ -142,253 +141,211 @@ merge_entries-loop-left_index-init t c =
     let entry-count = c.entry_count-left_len in
     let pre = c.requires in
     let args = c.args in
-    (go_start pre args.root_is_wildcard, omega arith, omega arith, entry-count.ensures, entry-count2.ensures, omega arith)
+    record {
+      go = go_start pre args.root_is_wildcard;
+      left_within = omega arith;
+      right_within = omega arith;
+      left_size = entry-count.ensures;
+      right_size = entry-count2.ensures;
+      more = omega arith;
+    }
 
 pub merge_entries-intern_with_rest-requires : goal.merge_entries-intern_with_rest-requires
 merge_entries-intern_with_rest-requires t c =
     let if1 = c.if-right_len-right_index in
     let loop = c.loop-left_index in
     let pre = c.requires in (
-      rest_left pre loop.invariant.0 (omega (arith, loop.invariant.1)) (omega (arith, loop.invariant.2, if1.true)) (omega (arith, loop.invariant.2)),
-      right_there pre loop.invariant.0,
+      rest_left pre loop.invariant.go (omega (arith, loop.invariant.left_within)) (omega (arith, loop.invariant.right_within, if1.true)) (omega (arith, loop.invariant.right_within)),
+      right_there pre loop.invariant.go,
     )
+
+pub merge_entries-returns-in_err-ended : goal.merge_entries-returns-in_err-ended
+merge_entries-returns-in_err-ended t c =
+    let rest = c.intern_with_rest in
+    let loop = c.loop-left_index in
+    let p = err_from_is_err_and c.from_residual.result c.from_residual.ensures.1 in
+    let done = left_ended c.requires loop.invariant.go (omega (arith, loop.invariant.left_within)) (omega (arith, loop.invariant.right_within, c.if-right_len-right_index.true))
+    (omega (arith, loop.invariant.right_within)) loop.made loop.invariant.more rest.result rest.new.store rest.new.scratch rest.ensures in
+    rw (p.1, p.2) (rw c.in_err-ended.was at done)
 
 pub merge_entries-returns-then-right_len-right_index : goal.merge_entries-returns-then-right_len-right_index
 merge_entries-returns-then-right_len-right_index t c =
-    let answer = c.answer in
-    let intern-with-rest = c.intern_with_rest in
-    let if1 = c.if-right_len-right_index in
+    let rest = c.intern_with_rest in
     let loop = c.loop-left_index in
-    let pre = c.requires in
-    rw answer.ensures
-    (left_ended pre loop.invariant.0 (omega (arith, loop.invariant.1)) (omega (arith, loop.invariant.2, if1.true)) (omega (arith, loop.invariant.2)) loop.made loop.invariant.5
-    intern-with-rest.result intern-with-rest.new.store intern-with-rest.new.scratch intern-with-rest.ensures)
+    let done = left_ended c.requires loop.invariant.go (omega (arith, loop.invariant.left_within)) (omega (arith, loop.invariant.right_within, c.if-right_len-right_index.true))
+    (omega (arith, loop.invariant.right_within)) loop.made loop.invariant.more rest.result rest.new.store rest.new.scratch rest.ensures in
+    rw c.after.ensures (rw c.in_ok-ended.was at done)
 
 pub merge_entries-entry-left_entry-requires : goal.merge_entries-entry-left_entry-requires
 merge_entries-entry-left_entry-requires t c =
     let loop-test = c.loop-left_index-test in
     let loop = c.loop-left_index in
     let pre = c.requires in
-    (left_known pre loop.invariant.0, rw (left_is pre loop.invariant.0) (omega (arith, loop.invariant.3, loop-test.true)))
+    (left_known pre loop.invariant.go, rw (left_is pre loop.invariant.go) (omega (arith, loop.invariant.left_size, loop-test.true)))
 
 pub merge_entries-entry-right_entry-requires : goal.merge_entries-entry-right_entry-requires
 merge_entries-entry-right_entry-requires t c =
     let if1 = c.if-right_len-right_index in
     let loop = c.loop-left_index in
     let pre = c.requires in (
-      left_known (sides_exchanged pre) (exchanged loop.invariant.0),
-      rw (left_is (sides_exchanged pre) (exchanged loop.invariant.0)) (omega (arith, loop.invariant.4, if1.false)),
+      left_known (sides_exchanged pre) (exchanged loop.invariant.go),
+      rw (left_is (sides_exchanged pre) (exchanged loop.invariant.go)) (omega (arith, loop.invariant.right_size, if1.false)),
     )
 
 pub merge_entries-overflow_add-top : goal.merge_entries-overflow_add-top
 merge_entries-overflow_add-top t c =
-    let heads : Heads c.args.store.now c.args.left.0 c.args.right.0 c.loop-left_index.left_index c.loop-left_index.right_index c.entry-left_entry.result c.entry-right_entry.result = record {
-      left_more = omega (arith, c.loop-left_index.invariant.3, c.loop-left_index-test.true);
-      right_more = omega (arith, c.loop-left_index.invariant.4, c.if-right_len-right_index.false);
-      left = rw (left_is c.requires c.loop-left_index.invariant.0) at c.entry-left_entry.ensures;
-      right = rw (left_is (sides_exchanged c.requires) (exchanged c.loop-left_index.invariant.0)) at c.entry-right_entry.ensures;
-    } in
+    let heads = heads_at c.requires c.loop-left_index.invariant.go c.loop-left_index.invariant.left_size c.loop-left_index.invariant.right_size
+    c.loop-left_index-test.true c.if-right_len-right_index.false c.entry-left_entry.ensures c.entry-right_entry.ensures in
     let loop = c.loop-left_index in
     let pre = c.requires in
-    omega (arith, slot pre loop.invariant.0 heads)
+    omega (arith, slot pre loop.invariant.go heads)
 
 pub merge_entries-put_entry-requires : goal.merge_entries-put_entry-requires
 merge_entries-put_entry-requires t c =
-    let heads : Heads c.args.store.now c.args.left.0 c.args.right.0 c.loop-left_index.left_index c.loop-left_index.right_index c.entry-left_entry.result c.entry-right_entry.result = record {
-      left_more = omega (arith, c.loop-left_index.invariant.3, c.loop-left_index-test.true);
-      right_more = omega (arith, c.loop-left_index.invariant.4, c.if-right_len-right_index.false);
-      left = rw (left_is c.requires c.loop-left_index.invariant.0) at c.entry-left_entry.ensures;
-      right = rw (left_is (sides_exchanged c.requires) (exchanged c.loop-left_index.invariant.0)) at c.entry-right_entry.ensures;
-    } in
+    let heads = heads_at c.requires c.loop-left_index.invariant.go c.loop-left_index.invariant.left_size c.loop-left_index.invariant.right_size
+    c.loop-left_index-test.true c.if-right_len-right_index.false c.entry-left_entry.ensures c.entry-right_entry.ensures in
     let loop = c.loop-left_index in
     let pre = c.requires in
-    (loop.invariant.0.live.index.sized, slot pre loop.invariant.0 heads)
+    slot pre loop.invariant.go heads
 
 pub merge_entries-overflow_add-n : goal.merge_entries-overflow_add-n
 merge_entries-overflow_add-n t c =
-    let heads : Heads c.args.store.now c.args.left.0 c.args.right.0 c.loop-left_index.left_index c.loop-left_index.right_index c.entry-left_entry.result c.entry-right_entry.result = record {
-      left_more = omega (arith, c.loop-left_index.invariant.3, c.loop-left_index-test.true);
-      right_more = omega (arith, c.loop-left_index.invariant.4, c.if-right_len-right_index.false);
-      left = rw (left_is c.requires c.loop-left_index.invariant.0) at c.entry-left_entry.ensures;
-      right = rw (left_is (sides_exchanged c.requires) (exchanged c.loop-left_index.invariant.0)) at c.entry-right_entry.ensures;
-    } in
+    let heads = heads_at c.requires c.loop-left_index.invariant.go c.loop-left_index.invariant.left_size c.loop-left_index.invariant.right_size
+    c.loop-left_index-test.true c.if-right_len-right_index.false c.entry-left_entry.ensures c.entry-right_entry.ensures in
     let loop = c.loop-left_index in
     let pre = c.requires in
-    omega (arith, slot pre loop.invariant.0 heads)
+    omega (arith, slot pre loop.invariant.go heads)
 
 pub merge_entries-loop-left_index-preserved-then-left_entry-right_entry : goal.merge_entries-loop-left_index-preserved-then-left_entry-right_entry
 merge_entries-loop-left_index-preserved-then-left_entry-right_entry t c =
-    let heads : Heads c.args.store.now c.args.left.0 c.args.right.0 c.loop-left_index.left_index c.loop-left_index.right_index c.entry-left_entry.result c.entry-right_entry.result = record {
-      left_more = omega (arith, c.loop-left_index.invariant.3, c.loop-left_index-test.true);
-      right_more = omega (arith, c.loop-left_index.invariant.4, c.if-right_len-right_index.false);
-      left = rw (left_is c.requires c.loop-left_index.invariant.0) at c.entry-left_entry.ensures;
-      right = rw (left_is (sides_exchanged c.requires) (exchanged c.loop-left_index.invariant.0)) at c.entry-right_entry.ensures;
-    } in
+    let heads = heads_at c.requires c.loop-left_index.invariant.go c.loop-left_index.invariant.left_size c.loop-left_index.invariant.right_size
+    c.loop-left_index-test.true c.if-right_len-right_index.false c.entry-left_entry.ensures c.entry-right_entry.ensures in
     let put-entry = c.put_entry in
     let if2 = c.if-left_entry-right_entry in
     let loop-test = c.loop-left_index-test in
     let loop = c.loop-left_index in
-    let pre = c.requires in (
-      take_lower pre loop.invariant.0 heads if2.true put-entry.new.scratch put-entry.ensures,
-      omega (arith, loop-test.true),
-      loop.invariant.2,
-      loop.invariant.3,
-      loop.invariant.4,
-      loop.invariant.5,
-    )
+    let pre = c.requires in
+    record {
+      go = take_lower pre loop.invariant.go heads if2.true put-entry.new.scratch put-entry.ensures;
+      left_within = omega (arith, loop-test.true);
+      right_within = loop.invariant.right_within;
+      left_size = loop.invariant.left_size;
+      right_size = loop.invariant.right_size;
+      more = loop.invariant.more;
+    }
 
 pub merge_entries-overflow_add-top-then-right_entry-left_entry : goal.merge_entries-overflow_add-top-then-right_entry-left_entry
 merge_entries-overflow_add-top-then-right_entry-left_entry t c =
-    let heads : Heads c.args.store.now c.args.left.0 c.args.right.0 c.loop-left_index.left_index c.loop-left_index.right_index c.entry-left_entry.result c.entry-right_entry.result = record {
-      left_more = omega (arith, c.loop-left_index.invariant.3, c.loop-left_index-test.true);
-      right_more = omega (arith, c.loop-left_index.invariant.4, c.if-right_len-right_index.false);
-      left = rw (left_is c.requires c.loop-left_index.invariant.0) at c.entry-left_entry.ensures;
-      right = rw (left_is (sides_exchanged c.requires) (exchanged c.loop-left_index.invariant.0)) at c.entry-right_entry.ensures;
-    } in
+    let heads = heads_at c.requires c.loop-left_index.invariant.go c.loop-left_index.invariant.left_size c.loop-left_index.invariant.right_size
+    c.loop-left_index-test.true c.if-right_len-right_index.false c.entry-left_entry.ensures c.entry-right_entry.ensures in
     let loop = c.loop-left_index in
     let pre = c.requires in
-    omega (arith, slot pre loop.invariant.0 heads)
+    omega (arith, slot pre loop.invariant.go heads)
 
 pub merge_entries-put_entry-requires-then-right_entry-left_entry : goal.merge_entries-put_entry-requires-then-right_entry-left_entry
 merge_entries-put_entry-requires-then-right_entry-left_entry t c =
-    let heads : Heads c.args.store.now c.args.left.0 c.args.right.0 c.loop-left_index.left_index c.loop-left_index.right_index c.entry-left_entry.result c.entry-right_entry.result = record {
-      left_more = omega (arith, c.loop-left_index.invariant.3, c.loop-left_index-test.true);
-      right_more = omega (arith, c.loop-left_index.invariant.4, c.if-right_len-right_index.false);
-      left = rw (left_is c.requires c.loop-left_index.invariant.0) at c.entry-left_entry.ensures;
-      right = rw (left_is (sides_exchanged c.requires) (exchanged c.loop-left_index.invariant.0)) at c.entry-right_entry.ensures;
-    } in
+    let heads = heads_at c.requires c.loop-left_index.invariant.go c.loop-left_index.invariant.left_size c.loop-left_index.invariant.right_size
+    c.loop-left_index-test.true c.if-right_len-right_index.false c.entry-left_entry.ensures c.entry-right_entry.ensures in
     let loop = c.loop-left_index in
     let pre = c.requires in
-    (loop.invariant.0.live.index.sized, slot pre loop.invariant.0 heads)
+    slot pre loop.invariant.go heads
 
 pub merge_entries-overflow_add-n-then-right_entry-left_entry : goal.merge_entries-overflow_add-n-then-right_entry-left_entry
 merge_entries-overflow_add-n-then-right_entry-left_entry t c =
-    let heads : Heads c.args.store.now c.args.left.0 c.args.right.0 c.loop-left_index.left_index c.loop-left_index.right_index c.entry-left_entry.result c.entry-right_entry.result = record {
-      left_more = omega (arith, c.loop-left_index.invariant.3, c.loop-left_index-test.true);
-      right_more = omega (arith, c.loop-left_index.invariant.4, c.if-right_len-right_index.false);
-      left = rw (left_is c.requires c.loop-left_index.invariant.0) at c.entry-left_entry.ensures;
-      right = rw (left_is (sides_exchanged c.requires) (exchanged c.loop-left_index.invariant.0)) at c.entry-right_entry.ensures;
-    } in
+    let heads = heads_at c.requires c.loop-left_index.invariant.go c.loop-left_index.invariant.left_size c.loop-left_index.invariant.right_size
+    c.loop-left_index-test.true c.if-right_len-right_index.false c.entry-left_entry.ensures c.entry-right_entry.ensures in
     let loop = c.loop-left_index in
     let pre = c.requires in
-    omega (arith, slot pre loop.invariant.0 heads)
+    omega (arith, slot pre loop.invariant.go heads)
 
 pub merge_entries-loop-left_index-preserved-then-right_entry-left_entry : goal.merge_entries-loop-left_index-preserved-then-right_entry-left_entry
 merge_entries-loop-left_index-preserved-then-right_entry-left_entry t c =
-    let heads : Heads c.args.store.now c.args.left.0 c.args.right.0 c.loop-left_index.left_index c.loop-left_index.right_index c.entry-left_entry.result c.entry-right_entry.result = record {
-      left_more = omega (arith, c.loop-left_index.invariant.3, c.loop-left_index-test.true);
-      right_more = omega (arith, c.loop-left_index.invariant.4, c.if-right_len-right_index.false);
-      left = rw (left_is c.requires c.loop-left_index.invariant.0) at c.entry-left_entry.ensures;
-      right = rw (left_is (sides_exchanged c.requires) (exchanged c.loop-left_index.invariant.0)) at c.entry-right_entry.ensures;
-    } in
+    let heads = heads_at c.requires c.loop-left_index.invariant.go c.loop-left_index.invariant.left_size c.loop-left_index.invariant.right_size
+    c.loop-left_index-test.true c.if-right_len-right_index.false c.entry-left_entry.ensures c.entry-right_entry.ensures in
     let put-entry2 = c.put_entry-then-right_entry-left_entry in
     let if3 = c.if-right_entry-left_entry in
     let if1 = c.if-right_len-right_index in
     let loop = c.loop-left_index in
-    let pre = c.requires in (
-      exchanged (take_lower (sides_exchanged pre) (exchanged loop.invariant.0) (heads_exchanged heads) if3.true
-          put-entry2.new.scratch put-entry2.ensures),
-      loop.invariant.1,
-      omega (arith, if1.false),
-      loop.invariant.3,
-      loop.invariant.4,
-      loop.invariant.5,
-    )
+    let pre = c.requires in
+    record {
+      go = exchanged (take_lower (sides_exchanged pre) (exchanged loop.invariant.go) (heads_exchanged heads) if3.true put-entry2.new.scratch put-entry2.ensures);
+      left_within = loop.invariant.left_within;
+      right_within = omega (arith, if1.false);
+      left_size = loop.invariant.left_size;
+      right_size = loop.invariant.right_size;
+      more = loop.invariant.more;
+    }
 
 pub merge_entries-overflow_add-top-in-loop-left_index : goal.merge_entries-overflow_add-top-in-loop-left_index
 merge_entries-overflow_add-top-in-loop-left_index t c =
-    let heads : Heads c.args.store.now c.args.left.0 c.args.right.0 c.loop-left_index.left_index c.loop-left_index.right_index c.entry-left_entry.result c.entry-right_entry.result = record {
-      left_more = omega (arith, c.loop-left_index.invariant.3, c.loop-left_index-test.true);
-      right_more = omega (arith, c.loop-left_index.invariant.4, c.if-right_len-right_index.false);
-      left = rw (left_is c.requires c.loop-left_index.invariant.0) at c.entry-left_entry.ensures;
-      right = rw (left_is (sides_exchanged c.requires) (exchanged c.loop-left_index.invariant.0)) at c.entry-right_entry.ensures;
-    } in
+    let heads = heads_at c.requires c.loop-left_index.invariant.go c.loop-left_index.invariant.left_size c.loop-left_index.invariant.right_size
+    c.loop-left_index-test.true c.if-right_len-right_index.false c.entry-left_entry.ensures c.entry-right_entry.ensures in
     let loop = c.loop-left_index in
     let pre = c.requires in
-    omega (arith, slot pre loop.invariant.0 heads)
+    omega (arith, slot pre loop.invariant.go heads)
 
-pub merge_entries-merge-merged-requires : goal.merge_entries-merge-merged-requires
-merge_entries-merge-merged-requires t c =
-    let heads : Heads c.args.store.now c.args.left.0 c.args.right.0 c.loop-left_index.left_index c.loop-left_index.right_index c.entry-left_entry.result c.entry-right_entry.result = record {
-      left_more = omega (arith, c.loop-left_index.invariant.3, c.loop-left_index-test.true);
-      right_more = omega (arith, c.loop-left_index.invariant.4, c.if-right_len-right_index.false);
-      left = rw (left_is c.requires c.loop-left_index.invariant.0) at c.entry-left_entry.ensures;
-      right = rw (left_is (sides_exchanged c.requires) (exchanged c.loop-left_index.invariant.0)) at c.entry-right_entry.ensures;
-    } in
+pub merge_entries-merge-requires : goal.merge_entries-merge-requires
+merge_entries-merge-requires t c =
+    let heads = heads_at c.requires c.loop-left_index.invariant.go c.loop-left_index.invariant.left_size c.loop-left_index.invariant.right_size
+    c.loop-left_index-test.true c.if-right_len-right_index.false c.entry-left_entry.ensures c.entry-right_entry.ensures in
     let loop = c.loop-left_index in
     let pre = c.requires in (
-      omega (arith, c.decreases, parents_fall pre loop.invariant.0 heads),
-      inner pre loop.invariant.0 heads,
+      omega (arith, c.decreases, parents_fall pre loop.invariant.go heads),
+      inner pre loop.invariant.go heads,
     )
 
-pub merge_entries-returns-in_default : goal.merge_entries-returns-in_default
-merge_entries-returns-in_default t c =
-    let heads : Heads c.args.store.now c.args.left.0 c.args.right.0 c.loop-left_index.left_index c.loop-left_index.right_index c.entry-left_entry.result c.entry-right_entry.result = record {
-      left_more = omega (arith, c.loop-left_index.invariant.3, c.loop-left_index-test.true);
-      right_more = omega (arith, c.loop-left_index.invariant.4, c.if-right_len-right_index.false);
-      left = rw (left_is c.requires c.loop-left_index.invariant.0) at c.entry-left_entry.ensures;
-      right = rw (left_is (sides_exchanged c.requires) (exchanged c.loop-left_index.invariant.0)) at c.entry-right_entry.ensures;
-    } in
-    rw c.in_default.is (inner_refused c.requires c.loop-left_index.invariant.0 heads (omega (arith, c.if-left_entry-right_entry.false, c.if-right_entry-left_entry.false)) c.in_default.field-0 c.merge-merged.new.store c.merge-merged.new.scratch (rw c.in_default.is at c.merge-merged.ensures))
+pub merge_entries-returns-in_err-beneath : goal.merge_entries-returns-in_err-beneath
+merge_entries-returns-in_err-beneath t c =
+    let heads = heads_at c.requires c.loop-left_index.invariant.go c.loop-left_index.invariant.left_size c.loop-left_index.invariant.right_size
+    c.loop-left_index-test.true c.if-right_len-right_index.false c.entry-left_entry.ensures c.entry-right_entry.ensures in
+    let p = err_from_is_err_and c.from_residual-in_err-beneath.result c.from_residual-in_err-beneath.ensures.1 in
+    rw (p.1, p.2)
+    (inner_refused c.requires c.loop-left_index.invariant.go heads (omega (arith, c.if-left_entry-right_entry.false, c.if-right_entry-left_entry.false)) _
+    c.merge.new.store c.merge.new.scratch (rw c.in_err-beneath.was at c.merge.ensures))
 
 pub merge_entries-overflow_add-top-in-loop-left_index-2 : goal.merge_entries-overflow_add-top-in-loop-left_index-2
 merge_entries-overflow_add-top-in-loop-left_index-2 t c =
-    let heads : Heads c.args.store.now c.args.left.0 c.args.right.0 c.loop-left_index.left_index c.loop-left_index.right_index c.entry-left_entry.result c.entry-right_entry.result = record {
-      left_more = omega (arith, c.loop-left_index.invariant.3, c.loop-left_index-test.true);
-      right_more = omega (arith, c.loop-left_index.invariant.4, c.if-right_len-right_index.false);
-      left = rw (left_is c.requires c.loop-left_index.invariant.0) at c.entry-left_entry.ensures;
-      right = rw (left_is (sides_exchanged c.requires) (exchanged c.loop-left_index.invariant.0)) at c.entry-right_entry.ensures;
-    } in
+    let heads = heads_at c.requires c.loop-left_index.invariant.go c.loop-left_index.invariant.left_size c.loop-left_index.invariant.right_size
+    c.loop-left_index-test.true c.if-right_len-right_index.false c.entry-left_entry.ensures c.entry-right_entry.ensures in
     let loop = c.loop-left_index in
     let pre = c.requires in
-    omega (arith, slot pre loop.invariant.0 heads)
+    omega (arith, slot pre loop.invariant.go heads)
 
 pub merge_entries-put_entry-requires-in-loop-left_index : goal.merge_entries-put_entry-requires-in-loop-left_index
 merge_entries-put_entry-requires-in-loop-left_index t c =
-    let heads : Heads c.args.store.now c.args.left.0 c.args.right.0 c.loop-left_index.left_index c.loop-left_index.right_index c.entry-left_entry.result c.entry-right_entry.result = record {
-      left_more = omega (arith, c.loop-left_index.invariant.3, c.loop-left_index-test.true);
-      right_more = omega (arith, c.loop-left_index.invariant.4, c.if-right_len-right_index.false);
-      left = rw (left_is c.requires c.loop-left_index.invariant.0) at c.entry-left_entry.ensures;
-      right = rw (left_is (sides_exchanged c.requires) (exchanged c.loop-left_index.invariant.0)) at c.entry-right_entry.ensures;
-    } in
+    let heads = heads_at c.requires c.loop-left_index.invariant.go c.loop-left_index.invariant.left_size c.loop-left_index.invariant.right_size
+    c.loop-left_index-test.true c.if-right_len-right_index.false c.entry-left_entry.ensures c.entry-right_entry.ensures in
     let loop = c.loop-left_index in
     let pre = c.requires in
-    (c.in-Number.ensures.0.live.index.sized, slot pre loop.invariant.0 heads)
+    slot pre loop.invariant.go heads
 
 pub merge_entries-overflow_add-n-in-loop-left_index : goal.merge_entries-overflow_add-n-in-loop-left_index
 merge_entries-overflow_add-n-in-loop-left_index t c =
-    let heads : Heads c.args.store.now c.args.left.0 c.args.right.0 c.loop-left_index.left_index c.loop-left_index.right_index c.entry-left_entry.result c.entry-right_entry.result = record {
-      left_more = omega (arith, c.loop-left_index.invariant.3, c.loop-left_index-test.true);
-      right_more = omega (arith, c.loop-left_index.invariant.4, c.if-right_len-right_index.false);
-      left = rw (left_is c.requires c.loop-left_index.invariant.0) at c.entry-left_entry.ensures;
-      right = rw (left_is (sides_exchanged c.requires) (exchanged c.loop-left_index.invariant.0)) at c.entry-right_entry.ensures;
-    } in
+    let heads = heads_at c.requires c.loop-left_index.invariant.go c.loop-left_index.invariant.left_size c.loop-left_index.invariant.right_size
+    c.loop-left_index-test.true c.if-right_len-right_index.false c.entry-left_entry.ensures c.entry-right_entry.ensures in
     let loop = c.loop-left_index in
     let pre = c.requires in
-    omega (arith, slot pre loop.invariant.0 heads)
+    omega (arith, slot pre loop.invariant.go heads)
 
 pub merge_entries-loop-left_index-preserved : goal.merge_entries-loop-left_index-preserved
 merge_entries-loop-left_index-preserved t c =
-    let heads : Heads c.args.store.now c.args.left.0 c.args.right.0 c.loop-left_index.left_index c.loop-left_index.right_index c.entry-left_entry.result c.entry-right_entry.result = record {
-      left_more = omega (arith, c.loop-left_index.invariant.3, c.loop-left_index-test.true);
-      right_more = omega (arith, c.loop-left_index.invariant.4, c.if-right_len-right_index.false);
-      left = rw (left_is c.requires c.loop-left_index.invariant.0) at c.entry-left_entry.ensures;
-      right = rw (left_is (sides_exchanged c.requires) (exchanged c.loop-left_index.invariant.0)) at c.entry-right_entry.ensures;
-    } in
+    let heads = heads_at c.requires c.loop-left_index.invariant.go c.loop-left_index.invariant.left_size c.loop-left_index.invariant.right_size
+    c.loop-left_index-test.true c.if-right_len-right_index.false c.entry-left_entry.ensures c.entry-right_entry.ensures in
     let put-entry3 = c.put_entry-in-loop-left_index in
-    let merge = c.merge-merged in
+    let merge = c.merge in
     let if1 = c.if-right_len-right_index in
     let loop-test = c.loop-left_index-test in
     let loop = c.loop-left_index in
-    let pre = c.requires in (
-      take_equal pre loop.invariant.0 heads (omega (arith, c.if-left_entry-right_entry.false, c.if-right_entry-left_entry.false)) c.in-Number.parent.0 merge.new.store merge.new.scratch
-          c.in-Number.ensures.0 put-entry3.new.scratch put-entry3.ensures,
-      omega (arith, loop-test.true),
-      omega (arith, if1.false),
-      loop.invariant.3,
-      loop.invariant.4,
-      omega (arith, loop.invariant.5, c.in-Number.ensures.1),
-    )
+    let pre = c.requires in
+    record {
+      go = take_equal pre loop.invariant.go heads (omega (arith, c.if-left_entry-right_entry.false, c.if-right_entry-left_entry.false)) c.in_ok-beneath.beneath.context.0
+          merge.new.store merge.new.scratch (rw c.in_ok-beneath.was at merge.ensures).0 put-entry3.new.scratch put-entry3.ensures;
+      left_within = omega (arith, loop-test.true);
+      right_within = omega (arith, if1.false);
+      left_size = loop.invariant.left_size;
+      right_size = loop.invariant.right_size;
+      more = omega (arith, loop.invariant.more, (rw c.in_ok-beneath.was at merge.ensures).1);
+    }
 
 pub merge_entries-intern_with_rest-requires-2 : goal.merge_entries-intern_with_rest-requires-2
 merge_entries-intern_with_rest-requires-2 t c =
@@ -396,11 +353,27 @@ merge_entries-intern_with_rest-requires-2 t c =
     let loop = c.loop-left_index in
     let pre = c.requires in
     let turned = sides_exchanged pre in (
-      rest_left turned (exchanged loop.invariant.0) (omega (arith, loop.invariant.2)) (omega (arith, loop.invariant.1, loop-test.false)) (omega (arith, loop.invariant.1)),
-      right_there turned (exchanged loop.invariant.0),
+      rest_left turned (exchanged loop.invariant.go) (omega (arith, loop.invariant.right_within)) (omega (arith, loop.invariant.left_within, loop-test.false)) (omega (arith, loop.invariant.left_within)),
+      right_there turned (exchanged loop.invariant.go),
     )
+
+pub merge_entries-returns-in_err-ended-2 : goal.merge_entries-returns-in_err-ended-2
+merge_entries-returns-in_err-ended-2 t c =
+    let rest = c.intern_with_rest-2 in
+    let loop = c.loop-left_index in
+    let p = err_from_is_err_and c.from_residual-in_err-ended-2.result c.from_residual-in_err-ended-2.ensures.1 in
+    let done = left_ended (sides_exchanged c.requires) (exchanged loop.invariant.go) (omega (arith, loop.invariant.right_within))
+    (omega (arith, loop.invariant.left_within, c.loop-left_index-test.false)) (omega (arith, loop.invariant.left_within)) loop.made loop.invariant.more
+    rest.result rest.new.store rest.new.scratch rest.ensures in
+    rw (p.1, p.2, walked_even c.args.root_is_wildcard (state_of c.args.store.now c.args.scratch.now) c.args.left.0 c.args.right.0)
+    (rw c.in_err-ended-2.was at done)
 
 pub merge_entries-returns : goal.merge_entries-returns
 merge_entries-returns t c =
-    let answer2 = c.answer-2 in
-    rw answer2.ensures (rw (walked_even c.args.root_is_wildcard (state_of c.args.store.now c.args.scratch.now) c.args.left.0 c.args.right.0) (left_ended (sides_exchanged c.requires) (exchanged c.loop-left_index.invariant.0) (omega (arith, c.loop-left_index.invariant.2)) (omega (arith, c.loop-left_index.invariant.1, c.loop-left_index-test.false)) (omega (arith, c.loop-left_index.invariant.1)) c.loop-left_index.made c.loop-left_index.invariant.5 c.intern_with_rest-2.result c.intern_with_rest-2.new.store c.intern_with_rest-2.new.scratch c.intern_with_rest-2.ensures))
+    let rest = c.intern_with_rest-2 in
+    let loop = c.loop-left_index in
+    let done = left_ended (sides_exchanged c.requires) (exchanged loop.invariant.go) (omega (arith, loop.invariant.right_within))
+    (omega (arith, loop.invariant.left_within, c.loop-left_index-test.false)) (omega (arith, loop.invariant.left_within)) loop.made loop.invariant.more
+    rest.result rest.new.store rest.new.scratch rest.ensures in
+    rw (c.after-2.ensures, walked_even c.args.root_is_wildcard (state_of c.args.store.now c.args.scratch.now) c.args.left.0 c.args.right.0)
+    (rw c.in_ok-ended-2.was at done)

@@ -16,10 +16,14 @@ decreases-merge_entries l = 2 * (l.left.0 + l.right.0)
 -- left_index and right_index entries are taken, no more than there are, and `made` contexts are made
 abbrev pub invariant-merge_entries-loop-left_index : goal.invariant-merge_entries-loop-left_index
 invariant-merge_entries-loop-left_index l =
-    Go l.root_is_wildcard l.initial.store l.initial.scratch l.left.0 l.right.0 l.top l.store l.scratch l.left_index l.right_index l.n
-    × (l.left_index ≤ l.left_len) × (l.right_index ≤ l.right_len)
-    × (l.left_len ≡ size (node_at (store_of l.initial.store) l.left.0)) × (l.right_len ≡ size (node_at (store_of l.initial.store) l.right.0))
-    × More l.initial.store l.made l.store
+    record {
+      go : Go l.root_is_wildcard l.initial.store l.initial.scratch l.left.0 l.right.0 l.top l.store l.scratch l.left_index l.right_index l.n;
+      left_within : l.left_index ≤ l.left_len;
+      right_within : l.right_index ≤ l.right_len;
+      left_size : l.left_len ≡ size (node_at (store_of l.initial.store) l.left.0);
+      right_size : l.right_len ≡ size (node_at (store_of l.initial.store) l.right.0);
+      more : More l.initial.store l.made l.store;
+    }
 
 abbrev pub decreases-merge_entries-loop-left_index : goal.decreases-merge_entries-loop-left_index
 decreases-merge_entries-loop-left_index l = (l.left_len - l.left_index) + (l.right_len - l.right_index)

@@ -1,12 +1,14 @@
--- By kind: an array's length is its size, and any other record has one entry.
+-- By record: an array's length is its size, and any other record has one entry.
 use mathlib.Core.Path.{sym, ◌∙◌}
+use Rattle.layout.specs.Records.{of_array, record_array}
 use Rattle.queries.proofs.EntryWords.{size_many, size_other}
 use Rattle.queries.proofs.sizes.entry_count.Goals as goal
 
-pub returns-then-kind-eq2 : goal.returns-then-kind-eq2
-returns-then-kind-eq2 c =
-    let pre = c.requires in
-    c.second_of.ensures ∙ sym (size_many pre (sym c.kind_of-kind.ensures ∙ c.if-kind-eq2.true))
+pub returns-in-Array : goal.returns-in-Array
+returns-in-Array c =
+    let a = c.args in
+    let many = of_array a.store.now a.context _ _ (sym c.record_of.ensures ∙ c.in-Array.is) in
+    many.2 ∙ sym (size_many c.requires many.0)
 
-pub returns : goal.returns
-returns c = sym (size_other c.requires (λ e. c.if-kind-eq2.false (c.kind_of-kind.ensures ∙ e)))
+pub returns-in_default : goal.returns-in_default
+returns-in_default c = sym (size_other c.requires (λ e. c.in_default.not-Array _ _ (c.record_of.ensures ∙ record_array _ _ _ e)))

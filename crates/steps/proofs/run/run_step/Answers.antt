@@ -1,5 +1,4 @@
 -- An overlong script, then by what stands at the place.
-use borrow.Author.Rules.{rules}
 use native.Mathlib.Omega.{arith}
 use mathlib.Core.Path.{sym, ap, ◌∙◌}
 use mathlib.Core.List.{[]}
@@ -26,7 +25,7 @@ returns-in-Found c =
     let args = c.args in
     let run-record = c.run_record in
     let if1 = c.if-bytes-gt-MOST_BYTES in
-    let decode = c.decode-step in
+    let decode = c.decode in
     let words = lent args.store.now args.set.now args.stops.now args.scratch.now in
     let next = c.in-Found.next in record {
       as_the_step = ran_next args.out.now _ _ _ _ next _ run-record.ensures
@@ -40,7 +39,7 @@ returns-in-End c =
     let args = c.args in
     let wipe = c.wipe in
     let if1 = c.if-bytes-gt-MOST_BYTES in
-    let decode = c.decode-step in
+    let decode = c.decode in
     let words = lent args.store.now args.set.now args.stops.now args.scratch.now in record {
       as_the_step = ran_over args.out.now 0 _ _ [] words _ (wrote_none args.out.now 0 (omega arith)) wipe.ensures
           (step_ended args.bytes.now args.at words if1.false (sym (ap (reading args.bytes.now) c.in-End.is) ∙ decode.ensures.0));
@@ -52,7 +51,7 @@ returns-in-Malformed c =
     let args = c.args in
     let refuse = c.refuse-in-Malformed in
     let if1 = c.if-bytes-gt-MOST_BYTES in
-    let decode = c.decode-step in
+    let decode = c.decode in
     let words = lent args.store.now args.set.now args.stops.now args.scratch.now in record {
       as_the_step = ran_over args.out.now _ _ _ (refusal_line 9) words _ refuse.ensures.wrote refuse.ensures.scratch_after
           (step_malformed args.bytes.now args.at words if1.false (sym (ap (reading args.bytes.now) c.in-Malformed.is) ∙ decode.ensures.0));

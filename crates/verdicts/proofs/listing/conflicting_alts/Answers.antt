@@ -1,10 +1,9 @@
 -- The output's length and the checks of the set; then the words.
-use mathlib.Core.Path.{◌≡◌, ap, ◌∙◌}
-use mathlib.Core.List.{List, []}
-use Prim.Native.Nat.{ℕ}
-use Rattle.store.specs.declared.inner.admit.Admitted.TheVariants.{Ready as ready, Refused}
-use Rattle.outputs.specs.Outputs.{alts_length}
+use mathlib.Core.Path.{ap, ◌∙◌}
+use mathlib.Core.List.{[]}
+use Rattle.std.proofs.lemmas.Result.{err_from_is_err_and}
 use Rattle.outputs.specs.Alts.{telling}
+use Rattle.outputs.specs.Outputs.{alts_length}
 use Rattle.verdicts.specs.Calls.{written, verdict_left, conflicting_alts_call}
 use Rattle.verdicts.specs.Opened.{short_output, left_refused, left_answered}
 use Rattle.verdicts.proofs.listing.conflicting_alts.Goals as goal
@@ -12,37 +11,25 @@ use Rattle.verdicts.proofs.listing.conflicting_alts.Goals as goal
 pub returns-then-output-ne-ALTS_WORDS : goal.returns-then-output-ne-ALTS_WORDS
 unfolding conflicting_alts_call
 returns-then-output-ne-ALTS_WORDS c =
-    let args = c.args in
-    short_output args.store.now args.set.now args.scratch.now alts_length args.output.now _ _ [] c.if-output-ne-ALTS_WORDS.true
+    let a = c.args in
+    short_output a.store.now a.set.now a.scratch.now alts_length a.output.now _ _ [] c.if-output-ne-ALTS_WORDS.true
 
-pub returns-in-Refused : goal.returns-in-Refused
+pub returns-in_err-open_set : goal.returns-in_err-open_set
 unfolding conflicting_alts_call
-returns-in-Refused c =
-    let args = c.args in
-    let if1 = c.if-output-ne-ALTS_WORDS in
-    let open-set = c.open_set-opened in
-    let e : open-set.result ≡ Refused c.in-Refused.refusal = cc in
-    left_refused args.store.now args.set.now args.scratch.now alts_length args.output.now _ _ if1.false []
-    c.in-Refused.refusal open-set.new.scratch (rw e at open-set.ensures)
+returns-in_err-open_set c =
+    let a = c.args in
+    let p = err_from_is_err_and c.from_residual.result c.from_residual.ensures.1 in
+    rw (p.1, p.2) (left_refused a.store.now a.set.now a.scratch.now alts_length a.output.now _ _ c.if-output-ne-ALTS_WORDS.false [] _ c.open_set.new.scratch
+    (rw c.in_err-open_set.was at c.open_set.ensures))
 
 pub write_alts-requires : goal.write_alts-requires
 write_alts-requires c =
-    let if1 = c.if-output-ne-ALTS_WORDS in
-    let lead-all = c.lead_all in
-    let mark-all = c.mark_all in
-    (telling lead-all.ensures.0 mark-all.ensures, if1.false)
+    (telling c.lead_all.ensures.0 c.mark_all.ensures, c.if-output-ne-ALTS_WORDS.false)
 
 pub returns : goal.returns
 unfolding conflicting_alts_call
 returns c =
-    let args = c.args in
-    let clear = c.clear in
-    let if1 = c.if-output-ne-ALTS_WORDS in
-    let mark-all = c.mark_all in
-    let open-set = c.open_set-opened in
-    let write-alts = c.write_alts in
-    let e : open-set.result ≡ ready = c.in_default.is in
-    let s = rw e at open-set.ensures in
-    ap (λ (o : List ℕ). verdict_left written clear.new.words o) write-alts.ensures
-    ∙ left_answered args.store.now args.set.now args.scratch.now alts_length args.output.now _ _ if1.false
-    mark-all.new.scratch clear.new.words mark-all.ensures.lent clear.ensures open-set.new.scratch s
+    let a = c.args in
+    ap (verdict_left written c.clear.new.words) c.write_alts.ensures
+    ∙ left_answered a.store.now a.set.now a.scratch.now alts_length a.output.now _ _ c.if-output-ne-ALTS_WORDS.false
+    c.mark_all.new.scratch c.clear.new.words c.mark_all.ensures.lent c.clear.ensures c.open_set.new.scratch (rw c.in_ok-open_set.was at c.open_set.ensures)

@@ -1,10 +1,7 @@
--- `all_zero` answers `all_zero`. The loop's invariant: the OR of the words so far is 0 exactly if they all are; one word more is `all_zero_more`.
-use Rattle.std.proofs.Common.{◌≡◌, ◌-◌, ◌≤◌, eqb}
-use Rattle.words.specs.Lent.{all_zero}
+-- `all_zero` answers `all_zero`. The loop's invariant: the OR of the words so far is 0 exactly if they all are.
+use Rattle.std.proofs.Common.{◌≡◌, eqb, take}
+use Rattle.words.specs.Lent.{are_zeros}
 use Rattle.words.proofs.lent.all_zero.Given as goal
 
-abbrev pub invariant-loop-at : goal.invariant-loop-at
-invariant-loop-at l = (l.from ≤ l.at) × (l.at ≤ l.to) × (eqb l.seen 0 ≡ all_zero l.words l.from l.at)
-
-abbrev pub decreases-loop-at : goal.decreases-loop-at
-decreases-loop-at l = l.to - l.at
+abbrev pub invariant-loop-word : goal.invariant-loop-word
+invariant-loop-word l = eqb l.seen 0 ≡ are_zeros (take l.word-index l.word-items)

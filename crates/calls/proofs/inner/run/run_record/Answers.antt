@@ -1,7 +1,5 @@
 -- By the record.
-use borrow.Author.Rules.{rules}
-use native.Mathlib.Omega.{arith}
-use Rattle.calls.specs.Called.{stops_within, call_singleton, call_merge, call_show, call_stops, call_set}
+use Rattle.calls.specs.Called.{call_singleton, call_merge, call_show, call_stops}
 use Rattle.calls.proofs.inner.run.run_record.Goals as goal
 
 pub returns-in-Singleton : goal.returns-in-Singleton

@@ -5,22 +5,14 @@ use Rattle.deciding.proofs.inner.single.viable_alt.Goals as goal
 
 pub returns-then-config_count-eq0 : goal.returns-then-config_count-eq0
 returns-then-config_count-eq0 c =
-    let args = c.args in
-    let pre = c.requires in
-    (sym (viable_none args.set.now (sym c.config_count.ensures ∙ c.if-config_count-eq0.true)), pre)
+    (sym (viable_none c.args.set.now (sym c.config_count.ensures ∙ c.if-config_count-eq0.true)), c.requires)
 
 pub returns-then-each_picked : goal.returns-then-each_picked
 returns-then-each_picked c =
-    let args = c.args in
-    let each-picked = c.each_picked in
-    let least-alt = c.least_alt in
-    let e = viable_held args.set.now (record { 0 = least-alt.result }) least-alt.ensures (sym each-picked.ensures.0 ∙ c.if-each_picked.true) in
-    (sym e, each-picked.ensures.1)
+    let p = c.each_picked.ensures in
+    (sym (viable_held c.args.set.now (record { 0 = c.least_alt.result }) c.least_alt.ensures (sym p.0 ∙ c.if-each_picked.true)), p.1)
 
 pub returns : goal.returns
 returns c =
-    let args = c.args in
-    let each-picked = c.each_picked in
-    let least-alt = c.least_alt in
-    let e = viable_not_held args.set.now (record { 0 = least-alt.result }) least-alt.ensures (sym each-picked.ensures.0 ∙ c.if-each_picked.false) in
-    (sym e, each-picked.ensures.1)
+    let p = c.each_picked.ensures in
+    (sym (viable_not_held c.args.set.now (record { 0 = c.least_alt.result }) c.least_alt.ensures (sym p.0 ∙ c.if-each_picked.false)), p.1)

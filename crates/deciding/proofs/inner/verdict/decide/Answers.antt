@@ -5,25 +5,15 @@ use Rattle.deciding.proofs.inner.verdict.decide.Goals as goal
 
 pub returns-then-all_stopped : goal.returns-then-all_stopped
 returns-then-all_stopped c =
-    let args = c.args in
-    let pre = c.requires in
-    (sym (verdict_stopped args.stops.now args.set.now (sym c.all_stopped.ensures ∙ c.if-all_stopped.true)), pre)
+    (sym (verdict_stopped c.args.stops.now c.args.set.now (sym c.all_stopped.ensures ∙ c.if-all_stopped.true)), c.requires)
 
 pub returns-then-not-clashes : goal.returns-then-not-clashes
-returns-then-not-clashes c =
-    let all-stopped = c.all_stopped in
-    let args = c.args in
-    let if1 = c.if-all_stopped in
-    let lead-all = c.lead_all in
-    (sym (verdict_plain args.stops.now args.set.now (sym all-stopped.ensures ∙ if1.false) (sym c.clashes.ensures ∙ c.if-not-clashes.true)), lead-all.ensures.0.words)
+returns-then-not-clashes c = (
+  sym (verdict_plain c.args.stops.now c.args.set.now (sym c.all_stopped.ensures ∙ c.if-all_stopped.false) (sym c.clashes.ensures ∙ c.if-not-clashes.true)),
+  c.lead_all.ensures.0.words,
+)
 
 pub returns : goal.returns
 returns c =
-    let all-stopped = c.all_stopped in
-    let args = c.args in
-    let clashes = c.clashes in
-    let each-picked = c.each_picked in
-    let if1 = c.if-all_stopped in
-    let if2 = c.if-not-clashes in
-    let e = verdict_states args.stops.now args.set.now (sym all-stopped.ensures ∙ if1.false) (sym clashes.ensures ∙ if2.false) in
-    (each-picked.ensures.0 ∙ sym e, each-picked.ensures.1)
+    let e = verdict_states c.args.stops.now c.args.set.now (sym c.all_stopped.ensures ∙ c.if-all_stopped.false) (sym c.clashes.ensures ∙ c.if-not-clashes.false) in
+    (c.each_picked.ensures.0 ∙ sym e, c.each_picked.ensures.1)

@@ -1,10 +1,6 @@
 -- Config by config; what is known before each is `FirstsSoFar`.
-use Prim.Native.Nat.{◌-◌}
 use Rattle.grouping.specs.Step.{FirstsSoFar}
 use Rattle.grouping.proofs.inner.lead.lead_all.Given as goal
 
 abbrev pub invariant-loop-place : goal.invariant-loop-place
 invariant-loop-place l = FirstsSoFar l.set l.alike l.place l.scratch l.firsts
-
-abbrev pub decreases-loop-place : goal.decreases-loop-place
-decreases-loop-place l = l.count - l.place

@@ -9,13 +9,8 @@ returns-then-found-marked c =
     let config-count = c.config_count-count in
     let loop = c.loop-place in
     let loop-test = c.loop-place-test in
-    (omega (arith, loop-test.true, config-count.ensures), beq_same _ _ c.if-found-marked.true, loop.invariant.1)
+    (omega (arith, loop-test.true, config-count.ensures), beq_same _ _ c.if-found-marked.true, loop.invariant)
 
 pub loop-place-preserved : goal.loop-place-preserved
 unfolding marks
-loop-place-preserved c =
-    let config-count = c.config_count-count in
-    let loop = c.loop-place in
-    let loop-test = c.loop-place-test in
-    let args = c.args in
-    (omega (arith, loop-test.true, config-count.ensures), not_yet_more args.scratch.now _ _ loop.invariant.1 (beq_other _ _ c.if-found-marked.false))
+loop-place-preserved c = not_yet_more c.args.scratch.now _ _ c.loop-place.invariant (beq_other _ _ c.if-found-marked.false)

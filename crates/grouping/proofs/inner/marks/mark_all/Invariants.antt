@@ -1,10 +1,6 @@
 -- Config by config; what is known before each is `Marking`.
-use Prim.Native.Nat.{◌-◌}
 use Rattle.grouping.specs.Marks.Laws.{Marking}
 use Rattle.grouping.proofs.inner.marks.mark_all.Given as goal
 
 abbrev pub invariant-loop-place : goal.invariant-loop-place
 invariant-loop-place l = Marking l.set l.by l.place l.initial.scratch l.scratch
-
-abbrev pub decreases-loop-place : goal.decreases-loop-place
-decreases-loop-place l = l.count - l.place

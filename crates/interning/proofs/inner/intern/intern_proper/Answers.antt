@@ -1,23 +1,20 @@
 -- Two contexts are tried, then a lookup; what it does not find is made.
+use native.Mathlib.Omega.{arith}
 use mathlib.Core.Path.{◌≡◌, sym, ap, ◌∙◌}
 use Rattle.index.specs.Found.{found_of}
-use Rattle.index.specs.declared.find.Lookup.TheVariants.{At}
-use Rattle.interning.specs.Live.{live_length}
+use Rattle.std.specs.Prelude.{Some}
 use Rattle.interning.specs.Making.{pushed_hash, pushed_sought, pushed_beside, side_pushed, found_pushed, missing_of}
 use Rattle.interning.proofs.inner.intern.intern_proper.Goals as goal
 
-pub count_of-count-requires : goal.count_of-count-requires
-count_of-count-requires c =
-    let pre = c.requires in
-    live_length pre.0.live
-
 pub returns-then-same_record : goal.returns-then-same_record
 returns-then-same_record c =
-    side_pushed c.requires.0 c.args.one.0 c.requires.2 (sym c.same_record.ensures ∙ c.if-same_record.true)
+    let is = side_pushed c.requires.0 c.args.one.0 c.requires.2 (sym c.same_record.ensures ∙ c.if-same_record.true) in
+    rw c.found.ensures (is.0, is.1, omega arith)
 
 pub returns-then-same_record-2 : goal.returns-then-same_record-2
 returns-then-same_record-2 c =
-    side_pushed c.requires.0 c.args.other.0 c.requires.3 (sym c.same_record-2.ensures ∙ c.if-same_record-2.true)
+    let is = side_pushed c.requires.0 c.args.other.0 c.requires.3 (sym c.same_record-2.ensures ∙ c.if-same_record-2.true) in
+    rw c.found-then-same_record-2.ensures (is.0, is.1, omega arith)
 
 pub find_interned-found-requires : goal.find_interned-found-requires
 find_interned-found-requires c =
@@ -38,9 +35,9 @@ pub returns : goal.returns
 returns c =
     let find-interned = c.find_interned-found in
     let pre = c.requires in
-    let e : find-interned.result ≡ At c.in-At.context = cc in
-    found_pushed pre.0 pre.1 c.in-At.context.0
-    (sym (rw c.count_of-count.ensures at find-interned.ensures) ∙ ap found_of e)
+    let e : find-interned.result ≡ Some c.in-Some.context = cc in
+    let is = found_pushed pre.0 pre.1 c.in-Some.context.0 (sym (rw c.count_of-count.ensures at find-interned.ensures) ∙ ap found_of e) in
+    rw c.found-2.ensures (is.0, is.1, omega arith)
 
 pub same_record-requires : goal.same_record-requires
 same_record-requires c =

@@ -1,54 +1,31 @@
--- By the record's kind: `$`, a singleton's entry, or an array's.
+-- By the record: a singleton's entry, an array's, or `$`.
 use mathlib.Core.Path.{sym, ◌∙◌}
-use Rattle.lines.specs.Entries.Laws.{known_kind, known_pool, line_zero, line_one, line_many}
+use Rattle.layout.specs.Records.{of_single, of_array, record_single, record_array}
+use Rattle.lines.specs.Entries.Laws.{known_root, known_pool, line_zero, line_one, line_many}
 use Rattle.lines.proofs.inner.entries.lay_entries.Goals as goal
 
-pub returns-then-kind-eq0 : goal.returns-then-kind-eq0
-returns-then-kind-eq0 c =
-    let args = c.args in
-    let pre = c.requires in
-    let kind-of = c.kind_of-kind in
-    let if1 = c.if-kind-eq0 in
-    rw (← line_zero args.store.now args.context pre.0 (sym kind-of.ensures ∙ if1.true)) c.lay_one.ensures
-
-pub returns-then-kind-eq1 : goal.returns-then-kind-eq1
-returns-then-kind-eq1 c =
-    let args = c.args in
-    let pre = c.requires in
-    let kind-of = c.kind_of-kind in
-    let first_of = c.first_of-first in
-    let second-of = c.second_of-second in
-    let if2 = c.if-kind-eq1 in
-    rw (← line_one args.store.now args.context pre.0 (sym kind-of.ensures ∙ if2.true), ← first_of.ensures, ← second-of.ensures)
-    c.lay_one-then-kind-eq1.ensures
+pub returns-in-Single : goal.returns-in-Single
+returns-in-Single c =
+    let a = c.args in
+    let one = of_single a.store.now a.context c.in-Single.entry (sym c.record_of.ensures ∙ c.in-Single.is) in
+    rw (← line_one a.store.now a.context c.requires one.0, ← one.1, ← one.2) c.lay_one.ensures
 
 pub lay_many-requires : goal.lay_many-requires
 lay_many-requires c =
-    let args = c.args in
-    let pre = c.requires in
-    let kind-of = c.kind_of-kind in
-    let first_of = c.first_of-first in (
-      rw (first_of.ensures, c.second_of-second.ensures)
-          (known_pool args.store.now args.context pre.0
-          (known_kind args.store.now args.context pre.0 (λ e. c.if-kind-eq0.false (kind-of.ensures ∙ e))
-          (λ e. c.if-kind-eq1.false (kind-of.ensures ∙ e)))),
-      pre.1,
-    )
+    let a = c.args in
+    let many = of_array a.store.now a.context _ _ (sym c.record_of.ensures ∙ c.in-Array.is) in
+    rw (many.1, many.2) (known_pool a.store.now a.context c.requires many.0)
 
-pub returns : goal.returns
-returns c =
-    let args = c.args in
-    let pre = c.requires in
-    let kind-of = c.kind_of-kind in
-    let first_of = c.first_of-first in
-    let second-of = c.second_of-second in
-    let if1 = c.if-kind-eq0 in
-    let if2 = c.if-kind-eq1 in
-    rw (
-      ← line_many args.store.now args.context pre.0
-          (known_kind args.store.now args.context pre.0 (λ e. if1.false (kind-of.ensures ∙ e))
-          (λ e. if2.false (kind-of.ensures ∙ e))),
-      ← first_of.ensures,
-      ← second-of.ensures,
-    )
-    c.lay_many.ensures
+pub returns-in-Array : goal.returns-in-Array
+returns-in-Array c =
+    let a = c.args in
+    let many = of_array a.store.now a.context _ _ (sym c.record_of.ensures ∙ c.in-Array.is) in
+    rw (← line_many a.store.now a.context c.requires many.0, ← many.1, ← many.2) c.lay_many.ensures
+
+pub returns-in_default : goal.returns-in_default
+returns-in_default c =
+    let a = c.args in
+    let other = c.in_default in
+    let zero = known_root a.store.now a.context c.requires (λ e. other.not-Single _ (c.record_of.ensures ∙ record_single _ _ _ e))
+    (λ e. other.not-Array _ _ (c.record_of.ensures ∙ record_array _ _ _ e)) in
+    rw (← line_zero a.store.now a.context c.requires zero) c.lay_one-in_default.ensures

@@ -1,6 +1,7 @@
 -- What is left to lay gives the whole: a turn lays the next entry.
-use native.Mathlib.Omega.{arith}
+use mathlib.Core.Path.{ap}
 use Prim.Native.Nat.{◌+◌, ◌-◌}
+use Rattle.layout.specs.declared.entry.Entry.{Entry}
 use Rattle.lines.specs.Lines.{entries_bytes}
 use Rattle.lines.specs.Entries.{entry_bytes, pool_node}
 use Rattle.lines.specs.Laid.Laws.{rest_step, rest_done, rest_room}
@@ -12,11 +13,10 @@ put_entry-next-requires c =
     let args = c.args in
     let pre = c.requires in
     let loop = c.loop-i in
-    let pool_parent = c.pool_parent-parent in
-    rest_room loop.invariant.1 (entry_bytes c.pool_state-state.result pool_parent.result)
+    rest_room loop.invariant (entry_bytes c.pool_entry.result.state.0 c.pool_entry.result.parent.0)
     (entries_bytes (pool_node args.store.now (args.from + (loop.i + 1)) (args.n - (loop.i + 1))))
-    (pool_first args.store.now args.from args.n pre.0 loop.i c.pool_state-state.result pool_parent.result
-    c.loop-i-test.true c.pool_state-state.ensures pool_parent.ensures)
+    (pool_first args.store.now args.from args.n pre.0 loop.i c.pool_entry.result.state.0 c.pool_entry.result.parent.0
+    c.loop-i-test.true (ap (λ (x : Entry). x.state.0) c.pool_entry.ensures) (ap (λ (x : Entry). x.parent.0) c.pool_entry.ensures))
 
 pub loop-i-preserved : goal.loop-i-preserved
 loop-i-preserved c =
@@ -24,17 +24,13 @@ loop-i-preserved c =
     let pre = c.requires in
     let loop = c.loop-i in
     let loop-test = c.loop-i-test in
-    let pool_parent = c.pool_parent-parent in
-    let pool_state = c.pool_state-state in (
-      omega arith,
-      rest_step loop.invariant.1 _
-          (pool_first args.store.now args.from args.n pre.0 loop.i pool_state.result pool_parent.result
-          loop-test.true pool_state.ensures pool_parent.ensures)
-          c.put_entry-next.ensures,
-    )
+    rest_step loop.invariant _
+    (pool_first args.store.now args.from args.n pre.0 loop.i c.pool_entry.result.state.0 c.pool_entry.result.parent.0
+    loop-test.true (ap (λ (x : Entry). x.state.0) c.pool_entry.ensures) (ap (λ (x : Entry). x.parent.0) c.pool_entry.ensures))
+    c.put_entry-next.ensures
 
 pub returns : goal.returns
 returns c =
     let args = c.args in
     let pre = c.requires in
-    rest_done c.loop-i.invariant.1 (pool_none args.store.now args.from args.n pre.0 c.loop-i.i c.loop-i-test.false)
+    rest_done c.loop-i.invariant (pool_none args.store.now args.from args.n pre.0 c.loop-i.i c.loop-i-test.false)

@@ -3,6 +3,7 @@ use mathlib.Core.Path.{ap, ◌∙◌}
 use Prim.Native.Nat.{ℕ}
 use native.Mathlib.Omega.{arith}
 use lib.ListN.{replicate}
+use Rattle.groups.specs.Config.{Config}
 use Rattle.outputs.specs.Alts.{writing_none, writing_asks, writing_next, writing_end, writing_fits}
 use Rattle.outputs.proofs.inner.alts.write_alts.Goals as goal
 
@@ -18,17 +19,16 @@ add_if-written-requires c =
     let config-count = c.config_count-count in
     let loop = c.loop-place in
     let loop-test = c.loop-place-test in
-    writing_asks loop.invariant (omega (arith, loop-test.true, config-count.ensures)) c.alternative_of.result c.alternative_of.ensures
+    writing_asks loop.invariant (omega (arith, loop-test.true, config-count.ensures)) c.config_at.result.alt.0 (ap (λ (k : Config). k.alternative) c.config_at.ensures)
 
 pub loop-place-preserved : goal.loop-place-preserved
 loop-place-preserved c =
     let add-if = c.add_if-written in
-    let alternative-of = c.alternative_of in
     let config-count = c.config_count-count in
     let loop = c.loop-place in
     let loop-test = c.loop-place-test in
     let pre = c.requires in
-    writing_next loop.invariant (omega (arith, loop-test.true, config-count.ensures)) alternative-of.result alternative-of.ensures _
+    writing_next loop.invariant (omega (arith, loop-test.true, config-count.ensures)) c.config_at.result.alt.0 (ap (λ (k : Config). k.alternative) c.config_at.ensures) _
     (pre.0.tells loop.place (omega (arith, loop-test.true, config-count.ensures))) add-if.result add-if.new.words add-if.ensures
 
 pub overflow_cast-output : goal.overflow_cast-output

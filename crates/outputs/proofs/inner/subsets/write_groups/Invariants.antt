@@ -1,10 +1,6 @@
 -- Config by config; what is known before each is `Filling`.
-use Prim.Native.Nat.{◌-◌}
 use Rattle.outputs.specs.Written.{Filling}
 use Rattle.outputs.proofs.inner.subsets.write_groups.Given as goal
 
 abbrev pub invariant-loop-place : goal.invariant-loop-place
 invariant-loop-place l = Filling l.set l.scratch l.place l.at l.output
-
-abbrev pub decreases-loop-place : goal.decreases-loop-place
-decreases-loop-place l = l.count - l.place

@@ -1,5 +1,4 @@
 -- `W one`, the state, the alternative, the line end.
-use borrow.Author.Rules.{rules}
 use Rattle.reasonreplies.specs.Because.{one_line}
 use Rattle.reasonreplies.proofs.inner.why.lay_lone.Goals as goal
 

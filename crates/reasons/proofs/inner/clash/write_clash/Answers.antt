@@ -5,27 +5,21 @@ use Rattle.reasons.proofs.inner.clash.write_clash.Goals as goal
 
 pub write_members-count-requires : goal.write_members-count-requires
 write_members-count-requires c =
-    let lead-all = c.lead_all in
     let pre = c.requires in
-    roomy _ _ _ lead-all.ensures.0 pre.2 pre.3 _ pre.1
+    roomy _ _ _ c.lead_all.ensures.0 pre.2 pre.3 _ pre.1
 
 pub overflow_cast-output : goal.overflow_cast-output
 overflow_cast-output c =
-    let write-members = c.write_members-count in
-    let lead-all = c.lead_all in
     let pre = c.requires in
-    omega (arith, (clash_fits _ _ _ lead-all.ensures.0 pre.2 pre.3 _ pre.1 _ _ write-members.ensures).0)
+    omega (arith, (clash_fits _ _ _ c.lead_all.ensures.0 pre.2 pre.3 _ pre.1 _ _ c.write_members-count.ensures).0)
 
 pub bounds-output-0 : goal.bounds-output-0
 bounds-output-0 c =
-    let write-members = c.write_members-count in
-    let lead-all = c.lead_all in
     let pre = c.requires in
-    omega (arith, (clash_fits _ _ _ lead-all.ensures.0 pre.2 pre.3 _ pre.1 _ _ write-members.ensures).1)
+    omega (arith, (clash_fits _ _ _ c.lead_all.ensures.0 pre.2 pre.3 _ pre.1 _ _ c.write_members-count.ensures).1)
 
 pub returns : goal.returns
 returns c =
-    let write-members = c.write_members-count in
-    let lead-all = c.lead_all in
     let pre = c.requires in
-    (clash_written _ _ _ lead-all.ensures.0 pre.2 pre.3 _ pre.1 _ _ write-members.ensures, lead-all.ensures.0.words)
+    let led = c.lead_all.ensures.0 in
+    (clash_written _ _ _ led pre.2 pre.3 _ pre.1 _ _ c.write_members-count.ensures, led.words)

@@ -1,35 +1,18 @@
 -- A singleton, an array, or no good record.
 use mathlib.Core.Path.{sym, ◌∙◌}
+use Rattle.layout.specs.Records.{record_single, record_array}
 use Rattle.recordcheck.specs.Judge.{good_kind}
 use Rattle.recordcheck.proofs.inner.check.check_record.Goals as goal
 
-pub kind_of-kind-requires : goal.kind_of-kind-requires
-kind_of-kind-requires c =
-    let pre = c.requires in
-    (pre.0.records.sized, pre.1)
-
 pub check_single-requires : goal.check_single-requires
-check_single-requires c =
-    let pre = c.requires in
-    (pre.0, pre.1, sym c.kind_of-kind.ensures ∙ c.if-kind-eq1.true)
-
-pub returns-then-kind-eq1 : goal.returns-then-kind-eq1
-returns-then-kind-eq1 c = c.check_single.ensures
+check_single-requires c = (c.requires.0, c.requires.1, sym c.record_of.ensures ∙ c.in-Single.is)
 
 pub check_array-requires : goal.check_array-requires
-check_array-requires c =
-    let pre = c.requires in
-    (pre.0, pre.1, sym c.kind_of-kind.ensures ∙ c.if-kind-eq2.true)
+check_array-requires c = (c.requires.0, c.requires.1, sym c.record_of.ensures ∙ c.in-Array.is)
 
-pub returns-then-kind-eq2 : goal.returns-then-kind-eq2
-returns-then-kind-eq2 c = c.check_array.ensures
-
-pub returns : goal.returns
-returns c =
-    let args = c.args in
-    let pre = c.requires in
-    let kind-of = c.kind_of-kind in (
-      good_kind args.store.now args.context (λ e. c.if-kind-eq1.false (kind-of.ensures ∙ e))
-          (λ e. c.if-kind-eq2.false (kind-of.ensures ∙ e)),
-      pre.0.index.sized,
-    )
+pub returns-in_default : goal.returns-in_default
+returns-in_default c = (
+  good_kind c.args.store.now c.args.context (λ e. c.in_default.not-Single _ (c.record_of.ensures ∙ record_single _ _ _ e))
+      (λ e. c.in_default.not-Array _ _ (c.record_of.ensures ∙ record_array _ _ _ e)),
+  c.requires.0.index.sized,
+)

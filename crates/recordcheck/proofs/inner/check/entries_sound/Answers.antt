@@ -10,5 +10,5 @@ unfolding state
 returns c =
     let args = c.args in
     entries_of (state args.store.now) (parent args.store.now) args.from args.n args.context
-    (λ j. omega (arith, c.shared_slice_known-1.given (3586 + j)))
-    (λ j h. c.loop-i.invariant.1 j (omega arith))
+    (λ j. omega (arith, c.fits-store (3586 + j)))
+    (λ j h. c.loop-i.invariant j (omega arith))

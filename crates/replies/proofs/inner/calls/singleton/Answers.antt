@@ -1,11 +1,9 @@
 -- The call, and its line.
-use borrow.Author.Rules.{rules}
-use Rattle.replies.specs.Replies.Laws.{replied_call}
+use Rattle.replies.specs.Replies.Laws.{replied_context, replied_refused}
 use Rattle.replies.proofs.inner.calls.singleton.Goals as goal
 
-pub returns : goal.returns
-returns c =
-    let args = c.args in
-    let singleton = c.singleton-answer in
-    let lay-numbered = c.lay_numbered in
-    replied_call args.out.now _ singleton.result _ _ _ _ singleton.ensures lay-numbered.ensures
+pub returns-in-Ok : goal.returns-in-Ok
+returns-in-Ok c = replied_context c.args.out.now _ _ _ _ _ _ _ _ c.in-Ok.ensures c.lay_line.ensures
+
+pub returns-in-Err : goal.returns-in-Err
+returns-in-Err c = replied_refused c.args.out.now _ _ c.in-Err.refusal _ _ _ _ c.in-Err.ensures c.lay_refusal.ensures

@@ -1,5 +1,4 @@
 -- By the length.
-use borrow.Author.Rules.{rules}
 use mathlib.Core.Path.{sym, ◌∙◌}
 use Rattle.replies.specs.Replies.Laws.{wiped_right, wiped_wrong}
 use Rattle.replies.proofs.inner.calls.wipe.Goals as goal

@@ -1,5 +1,4 @@
 -- By the record on the set.
-use borrow.Author.Rules.{rules}
 use Rattle.setcalls.specs.Called.{call_new, call_add, call_close, call_verdict, call_why}
 use Rattle.setcalls.proofs.inner.run.run_set_record.Goals as goal
 

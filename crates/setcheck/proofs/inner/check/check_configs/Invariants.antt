@@ -1,10 +1,6 @@
 -- The configs up to `place` have passed, and the flags are theirs; the first that does not pass ends the check.
-use Prim.Native.Nat.{◌-◌, ◌≤◌}
 use Rattle.setcheck.specs.Judged.{Gathered}
 use Rattle.setcheck.proofs.inner.check.check_configs.Given as goal
 
 abbrev pub invariant-loop-place : goal.invariant-loop-place
-invariant-loop-place l = Gathered l.set l.initial.scratch l.contexts l.place l.flags l.scratch × (l.place ≤ l.count)
-
-abbrev pub decreases-loop-place : goal.decreases-loop-place
-decreases-loop-place l = l.count - l.place
+invariant-loop-place l = Gathered l.set l.initial.scratch l.contexts l.place l.flags l.scratch

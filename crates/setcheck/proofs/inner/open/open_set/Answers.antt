@@ -1,6 +1,5 @@
 -- Lengths, then the store, then the set: each refusal is the first that is due.
-use mathlib.Core.Path.{◌≡◌}
-use Rattle.store.specs.declared.inner.admit.Admitted.TheVariants.{Ready as ready, Refused}
+use Rattle.std.proofs.lemmas.Result.{err_from_is_err_and}
 use Rattle.setcheck.specs.Opened.{short_set, refused_store, unsound_set, ready_set}
 use Rattle.setcheck.proofs.inner.open.open_set.Goals as goal
 
@@ -9,35 +8,24 @@ returns-then-set-ne-SET_WORDS c =
     let args = c.args in
     short_set args.store.now args.set.now args.scratch.now c.if-set-ne-SET_WORDS.true
 
-pub returns-in_default : goal.returns-in_default
-returns-in_default c =
-    let open-store = c.open_store-opened in
+pub returns-in_err-store : goal.returns-in_err-store
+returns-in_err-store c =
     let args = c.args in
-    let if1 = c.if-set-ne-SET_WORDS in
-    let e : open-store.result ≡ Refused c.in_default.field-0 = c.in_default.is in
-    rw e (refused_store args.store.now args.set.now args.scratch.now if1.false c.in_default.field-0 open-store.new.scratch
-    (rw e at open-store.ensures))
+    let p = err_from_is_err_and c.from_residual.result c.from_residual.ensures.1 in
+    rw (p.1, p.2) (refused_store args.store.now args.set.now args.scratch.now c.if-set-ne-SET_WORDS.false _ c.open_store.new.scratch
+    (rw c.in_err-store.was at c.open_store.ensures.opened))
 
 pub returns-then-check_set : goal.returns-then-check_set
 returns-then-check_set c =
-    let open-store = c.open_store-opened in
     let args = c.args in
-    let if1 = c.if-set-ne-SET_WORDS in
-    let check-set = c.check_set in
-    let count_of = c.count_of-contexts in
-    let e : open-store.result ≡ ready = c.in-Ready.is in
-    ready_set args.store.now args.set.now args.scratch.now if1.false open-store.new.scratch check-set.new.scratch
-    (rw e at open-store.ensures) (rw (c.if-check_set.true, count_of.ensures) at check-set.ensures)
+    let same = rw c.in_ok-store.was at c.open_store.ensures.same in
+    ready_set args.store.now args.set.now args.scratch.now c.if-set-ne-SET_WORDS.false c.open_store.new.scratch c.check_set.new.scratch
+    (rw c.in_ok-store.was at c.open_store.ensures.opened) (rw (c.if-check_set.true, c.count_of-contexts.ensures, same) at c.check_set.ensures)
 
 pub returns : goal.returns
 returns c =
-    let open-store = c.open_store-opened in
     let args = c.args in
-    let if1 = c.if-set-ne-SET_WORDS in
-    let check-set = c.check_set in
-    let if2 = c.if-check_set in
-    let count_of = c.count_of-contexts in
-    let clear = c.clear in
-    let e : open-store.result ≡ ready = c.in-Ready.is in
-    unsound_set args.store.now args.set.now args.scratch.now if1.false open-store.new.scratch check-set.new.scratch
-    (rw e at open-store.ensures) (rw (if2.false, count_of.ensures) at check-set.ensures) clear.new.words clear.ensures
+    let same = rw c.in_ok-store.was at c.open_store.ensures.same in
+    unsound_set args.store.now args.set.now args.scratch.now c.if-set-ne-SET_WORDS.false c.open_store.new.scratch c.check_set.new.scratch
+    (rw c.in_ok-store.was at c.open_store.ensures.opened) (rw (c.if-check_set.false, c.count_of-contexts.ensures, same) at c.check_set.ensures)
+    c.clear.new.words c.clear.ensures

@@ -1,23 +1,30 @@
--- What `open_store` said, and then the context's number.
+-- What `open_words` said, and then the context's number.
 use mathlib.Core.Path.{◌∙◌}
-use Rattle.store.specs.Admit.{opened_ready, admits_known, admits_unknown, cleared}
+use Rattle.std.proofs.lemmas.Result.{err_from_is_err_and}
+use Rattle.store.specs.Admit.{opened_ready, refused_first, admits_known, admits_unknown, cleared}
 use Rattle.store.proofs.inner.admit.admit.Goals as goal
+
+pub returns-in_err-open_words : goal.returns-in_err-open_words
+returns-in_err-open_words c =
+    let args = c.args in
+    let a = c.open_words in
+    let p = err_from_is_err_and c.from_residual.result c.from_residual.ensures.1 in
+    rw (p.1, p.2) (refused_first args.store.now args.scratch.now a.new.scratch args.context.0 a.result _ c.in_err-open_words.was a.ensures)
 
 pub returns-then-context-count_of : goal.returns-then-context-count_of
 returns-then-context-count_of c =
     let args = c.args in
-    let open-store = c.open_store-opened in
-    admits_known args.store.now args.scratch.now open-store.new.scratch args.context.0 open-store.result
-    c.in-Ready.is open-store.ensures (rw c.count_of.ensures at c.if-context-count_of.true)
+    let open-words = c.open_words in
+    admits_known args.store.now args.scratch.now open-words.new.scratch args.context.0 open-words.result
+    c.in_ok-open_words.was open-words.ensures (rw c.count_of.ensures at c.if-context-count_of.true)
 
 pub returns : goal.returns
 returns c =
     let args = c.args in
-    let open-store = c.open_store-opened in
-    let count_of = c.count_of in
-    let if1 = c.if-context-count_of in
-    admits_unknown args.store.now args.scratch.now open-store.new.scratch args.context.0 open-store.result c.in-Ready.is
-    open-store.ensures (rw count_of.ensures at if1.false) _
-    (c.clear.ensures ∙ cleared open-store.new.scratch
-    (opened_ready args.store.now args.scratch.now open-store.new.scratch args.context.0 open-store.result
-    c.in-Ready.is open-store.ensures).index.sized)
+    let open-words = c.open_words in
+    let was = c.in_ok-open_words.was in
+    admits_unknown args.store.now args.scratch.now open-words.new.scratch args.context.0 open-words.result was
+    open-words.ensures (rw c.count_of.ensures at c.if-context-count_of.false) _
+    (c.clear.ensures ∙ cleared open-words.new.scratch
+    (opened_ready args.store.now args.scratch.now open-words.new.scratch args.context.0 open-words.result
+    was open-words.ensures).index.sized)

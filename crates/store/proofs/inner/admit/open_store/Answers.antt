@@ -1,36 +1,35 @@
--- Lengths, then soundness: each refusal is what the definition leaves.
-use mathlib.Core.Path.{sym, ap, ◌∙◌}
-use mathlib.Core.List.{List}
-use Rattle.store.specs.Calls.{refused, leaves}
-use Rattle.store.specs.Admit.{short_store, short_scratch, unsound, sound_goes, cleared}
+-- A wrong length is refused first; then each answer is that on the arrays.
+use Rattle.std.proofs.Common.{◌≡◌}
+use Rattle.std.proofs.lemmas.Result.{err_from_is_err_and}
+use Rattle.words.specs.declared.refusals.Refusal.TheVariants.{WrongLength}
+use Rattle.store.specs.Admit.{short_store, short_scratch}
 use Rattle.store.proofs.inner.admit.open_store.Goals as goal
 
-pub returns-then-store-ne-STORE_WORDS : goal.returns-then-store-ne-STORE_WORDS
-returns-then-store-ne-STORE_WORDS c =
-    let args = c.args in
-    λ go. short_store args.store.now args.scratch.now go c.if-store-ne-STORE_WORDS.true
+pub returns-in_err-store-clause-opened : goal.returns-in_err-store-clause-opened
+returns-in_err-store-clause-opened c =
+    let a = c.args in
+    let off = c.in_err-store in
+    let f : off.field-0.0 ≡ WrongLength = let v = rw off.ensures.ok_part at off.ensures.value in cc in
+    let p = err_from_is_err_and c.from_residual.result c.from_residual.ensures.1 in
+    rw (p.1, p.2, f) (λ go. short_store a.store.now a.scratch.now go (rw off.ensures.ok_part at c.as_array.ensures.cases))
 
-pub returns-then-scratch-ne-SCRATCH_WORDS : goal.returns-then-scratch-ne-SCRATCH_WORDS
-returns-then-scratch-ne-SCRATCH_WORDS c =
-    let args = c.args in
-    λ go. short_scratch args.store.now args.scratch.now go c.if-scratch-ne-SCRATCH_WORDS.true
+pub returns-in_err-scratch-clause-opened : goal.returns-in_err-scratch-clause-opened
+returns-in_err-scratch-clause-opened c =
+    let a = c.args in
+    let off = c.in_err-scratch in
+    let f : off.field-0.0 ≡ WrongLength = let v = rw off.ensures.ok_part at off.ensures.value in cc in
+    let p = err_from_is_err_and c.from_residual-in_err-scratch.result c.from_residual-in_err-scratch.ensures.1 in
+    rw (p.1, p.2, f) (λ go. short_scratch a.store.now a.scratch.now go (rw off.ensures.ok_part at c.as_mut_array.ensures.cases))
 
-pub returns-then-check_store : goal.returns-then-check_store
-returns-then-check_store c =
-    let args = c.args in
-    let if1 = c.if-store-ne-STORE_WORDS in
-    let if2 = c.if-scratch-ne-SCRATCH_WORDS in
-    let v = rw c.if-check_store.true at c.check_store.ensures in
-    (v, λ go. sound_goes args.store.now args.scratch.now go if1.false if2.false v.sound)
+pub returns-in_err-open_words-clause-opened : goal.returns-in_err-open_words-clause-opened
+returns-in_err-open_words-clause-opened c =
+    let w = rw c.in_ok-store.ensures.ok_part at c.as_array.ensures.cases in
+    let z = rw c.in_ok-scratch.ensures.ok_part at c.as_mut_array.ensures.cases in
+    let p = err_from_is_err_and c.from_residual-in_err-open_words.result c.from_residual-in_err-open_words.ensures.1 in
+    rw (p.1, p.2, ← w.same, ← z.same) (rw c.in_err-open_words.was at c.open_words.ensures)
 
-pub returns : goal.returns
-returns c =
-    let args = c.args in
-    let if1 = c.if-store-ne-STORE_WORDS in
-    let if2 = c.if-scratch-ne-SCRATCH_WORDS in
-    let check-store = c.check_store in
-    let if3 = c.if-check_store in
-    let v = rw if3.false at check-store.ensures in
-    λ go. unsound args.store.now args.scratch.now go if1.false if2.false v.0 ∙ ap
-    (λ (x : List _). leaves (refused 1) args.store.now x)
-    (sym (c.clear.ensures ∙ cleared check-store.new.scratch v.1))
+pub returns-clause-opened : goal.returns-clause-opened
+returns-clause-opened c =
+    let w = rw c.in_ok-store.ensures.ok_part at c.as_array.ensures.cases in
+    let z = rw c.in_ok-scratch.ensures.ok_part at c.as_mut_array.ensures.cases in
+    rw (← w.same, ← z.same) (rw c.in_ok-open_words.was at c.open_words.ensures)

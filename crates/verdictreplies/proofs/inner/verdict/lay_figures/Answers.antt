@@ -1,9 +1,7 @@
 -- `V`, the figures, the line end.
-use borrow.Author.Rules.{rules}
-use native.Mathlib.Omega.{arith}
 use Rattle.deciding.specs.OneAlt.{one_alt}
 use Rattle.replies.specs.Replies.{verdict_line_of}
-use Rattle.verdictreplies.specs.Figured.{line_start, line_more, line_room, figures_line_lem}
+use Rattle.verdictreplies.specs.Figured.{figures_line_lem}
 use Rattle.verdictreplies.proofs.inner.verdict.lay_figures.Goals as goal
 
 pub returns : goal.returns

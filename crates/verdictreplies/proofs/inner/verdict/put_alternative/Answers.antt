@@ -1,10 +1,7 @@
 -- By cases of the answer.
-use borrow.Author.Rules.{rules}
 use Rattle.lines.specs.Lines.{alternative_bytes}
 use Rattle.verdictreplies.proofs.inner.verdict.put_alternative.Goals as goal
 
-pub returns-in-Only : goal.returns-in-Only
+pub returns-in-Some : goal.returns-in-Some
 unfolding alternative_bytes
-returns-in-Only c =
-    let put-number = c.put_number in
-    rw c.in-Only.is put-number.ensures
+returns-in-Some c = rw c.in-Some.is c.put_number.ensures

@@ -1,8 +1,7 @@
 -- Two bytes, one after the other.
-use borrow.Author.Rules.{rules}
 use native.Mathlib.Omega.{arith}
 use Rattle.lines.specs.Lines.{alternative_bytes}
-use Rattle.lines.specs.Laid.Laws.{wrote_then, wrote_length}
+use Rattle.lines.specs.Laid.Laws.{wrote_then}
 use Rattle.verdictreplies.proofs.inner.verdict.put_none.Goals as goal
 
 pub returns : goal.returns

@@ -1,5 +1,4 @@
 -- 11 bytes are enough for a space and a number.
-use borrow.Author.Rules.{rules}
 use native.Mathlib.Omega.{arith}
 use Rattle.verdictreplies.specs.Figured.{piece_number, number_room}
 use Rattle.verdictreplies.proofs.inner.verdict.put_number.Goals as goal

@@ -1,18 +1,14 @@
--- By the verdict.
-use borrow.Author.Rules.{rules}
-use Rattle.lines.specs.Lines.{verdict_bytes}
+-- 1 for a settled verdict, else 0.
+use mathlib.Core.Bool.{Bool, true, false}
+use mathlib.Core.Path.{◌≡◌, refl}
+use mir.Val.{bool_byte}
+use Rattle.lines.specs.Lines.{spaced, verdict_bytes}
 use Rattle.verdictreplies.proofs.inner.verdict.put_verdict.Goals as goal
 
-pub returns-then-verdict : goal.returns-then-verdict
+digit : (t : Bool) → spaced (bool_byte t) ≡ verdict_bytes t
 unfolding verdict_bytes
-returns-then-verdict c =
-    let if1 = c.if-verdict in
-    let put-number = c.put_number in
-    rw if1.true put-number.ensures
+digit true = refl
+digit false = refl
 
 pub returns : goal.returns
-unfolding verdict_bytes
-returns c =
-    let if1 = c.if-verdict in
-    let put-number2 = c.put_number-2 in
-    rw if1.false put-number2.ensures
+returns c = rw (← digit c.args.verdict, ← c.from.ensures) c.put_number.ensures

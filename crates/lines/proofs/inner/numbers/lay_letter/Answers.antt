@@ -1,6 +1,0 @@
--- The letter, the line end.
-use Rattle.lines.specs.Laid.Laws.{wrote_then}
-use Rattle.lines.proofs.inner.numbers.lay_letter.Goals as goal
-
-pub returns : goal.returns
-returns c = wrote_then c.put_byte-at.ensures c.put_byte.ensures

@@ -1,8 +1,0 @@
--- The word is read where the config has it.
-use mathlib.Core.Path.{refl}
-use Rattle.groups.specs.Layout.{config_at, field}
-use Rattle.reasons.proofs.inner.clash.context_of.Goals as goal
-
-pub returns : goal.returns
-unfolding config_at field
-returns c = refl
