@@ -1,6 +1,5 @@
 // The merge of two contexts, full-context or by wildcard.
 ghost use Rattle.std.specs.Prelude.{◌≡◌, ◌<◌};
-ghost use Rattle.layout.specs.Decode.{store_of};
 ghost use Rattle.layout.specs.Layout.{count};
 ghost use Rattle.interning.specs.Live.{Live};
 ghost use Rattle.contexts.specs.MergeCall.{merge_call};

@@ -1,9 +1,9 @@
 // Lookup of entries on the stack among a store's records. A hash only picks the chain: every
 // candidate is compared field by field.
 ghost use Rattle.std.specs.Prelude.{◌≡◌, ◌+◌, ◌<◌, ◌≤◌};
-ghost use Rattle.arena.specs.Store.{end, find, push, same};
+ghost use Rattle.arena.specs.Store.{find, same};
 ghost use Rattle.layout.specs.Decode.{node_in, store_in};
-ghost use Rattle.layout.specs.Layout.{first, parent, second, state, most_contexts, most_entries};
+ghost use Rattle.layout.specs.Layout.{parent, state, most_contexts, most_entries};
 ghost use Rattle.layout.specs.Listing.Laws.{Entries};
 ghost use Rattle.layout.specs.Listing.{listing};
 ghost use Rattle.index.specs.Found.{found_of};
@@ -16,6 +16,7 @@ use layout::{Record, ScratchWords, StoreWords};
 use words::ContextId;
 
 // Do n pool entries equal n entries on the stack?
+// Kept by hand: the two are words of two buffers, not lists of entries that `==` could compare.
 fn same_entries(
     store: &StoreWords,
     scratch: &ScratchWords,

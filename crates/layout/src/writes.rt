@@ -6,7 +6,7 @@ ghost use Rattle.layout.specs.Layout.{most_contexts, most_entries};
 use crate::entry::Entry;
 use crate::places::{PARENTS, RECORDS, STATES, StoreWords};
 
-// Kept as numbers: these are words of the C interface, written as they will stand there.
+// Kept as words: each caller writes one kind, and a `Record` would only be taken apart again here.
 // Writes the three words of a record.
 pub fn put_record(store: &mut StoreWords, context: usize, kind: u32, first: u32, second: u32)
     requires { context < most_contexts }

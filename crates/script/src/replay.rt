@@ -13,6 +13,7 @@ pub fn replays(script: &[u8], answer: &[u8]) -> bool
     let mut room = Room::new();
     let mut at = 0;
     let mut told = 0;
+    // Kept as a loop: a step says where the next begins, and whether there is one.
     loop {
         match room.step(script, at) {
             Ran::Next(wrote, next) => {

@@ -8,6 +8,7 @@ use replies::inner::stops::STOP_WORDS;
 use setcheck::inner::places::SET_WORDS;
 
 // Makes a fresh store, an empty full-context set and no stop states, over any earlier contents.
+// Kept with its parameters: `Room` has it run over its own words.
 pub fn start(
     store: &mut [u32; STORE_WORDS],
     set: &mut [u32; SET_WORDS],

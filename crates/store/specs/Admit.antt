@@ -68,10 +68,10 @@ module _ (w z : List ℕ) (c : ℕ) where
 
 -- ---- a refusal that `open` gave, and those of a context's number
 
-pub refused_first : (w z u : List ℕ) (c : ℕ) (r : Result Unit Refusal) (f : Refusal) → r ≡ Err f → Opened w z r u → Admits w z c (Err f) u
+pub refused_first : {A : Type 0} (w z u : List ℕ) (c : ℕ) (r : Result A Refusal) (f : Refusal) → r ≡ Err f → Opened w z r u → Admits w z c (Err f) u
 refused_first w z u c r f e o = λ go. (rw e at o) (if_known w c go)
 
-module _ (w z u : List ℕ) (c : ℕ) (r : Result Unit Refusal) (e : r ≡ Ok tt) (o : Opened w z r u) where
+module _ {A : Type 0} (w z u : List ℕ) (c : ℕ) (r : Result A Refusal) (t : A) (e : r ≡ Ok t) (o : Opened w z r u) where
   pub opened_ready : Ready w u
   opened_ready = (rw e at o).0
 

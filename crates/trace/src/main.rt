@@ -29,6 +29,7 @@ fn run_script(rt: &(impl Print + Eprint), bytes: &[u8], room: &mut Room) -> bool
     ensures { Traced bytes.now result (lent_of room.new) }
 {
     let mut at = 0;
+    // Kept as a loop: a step says where the next begins, and whether there is one.
     loop {
         match room.step(bytes, at) {
             Ran::Next(wrote, next) => {

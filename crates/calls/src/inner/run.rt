@@ -12,6 +12,7 @@ use setcalls::inner::run::run_set_record;
 use setreplies::inner::stops::hold;
 
 // Runs a record's call and lays out its reply.
+// Kept with its parameters: docs/PROMISES.md names it, and it promises its answer on store and set of any length.
 pub fn run_record(
     call: Record,
     bytes: &[u8],

@@ -21,6 +21,7 @@ pub enum Picks {
 }
 
 // Is a config picked, `leader` being the first one?
+// Kept as an enum: contracts name what picks, and a closure would be named by none.
 fn picked(set: &[u32], leader: usize, place: usize, by: Picks) -> bool
     requires { (length set.now ≡ set_words_length) × (leader < most_configs) × (place < most_configs) }
     ensures { result ≡ picks by (config_at set.now leader) (config_at set.now place) }

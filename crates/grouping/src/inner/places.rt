@@ -1,4 +1,5 @@
 // Where a config's first one, the next config of its kind and the marks stand in the scratch: after the chains.
+// Kept by no heap: lists by index in lent words, where Rattle has Vec.
 
 pub const LEADERS: usize = 2560;
 

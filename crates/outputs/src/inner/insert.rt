@@ -1,6 +1,6 @@
 // An alternative put where it belongs among rising words. The way is from the right, since alternatives mostly
 // come rising.
-ghost use Rattle.std.specs.Prelude.{◌≡◌, ◌+◌, ◌<◌, ◌≤◌, length, set};
+ghost use Rattle.std.specs.Prelude.{◌≡◌, ◌+◌, ◌<◌, length, set};
 ghost use Rattle.groups.specs.Groups.{insert};
 ghost use Rattle.outputs.specs.Insert.{Row, ends_in, gap, part, row_with, seat_of};
 

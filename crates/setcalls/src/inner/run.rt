@@ -11,6 +11,7 @@ use setreplies::inner::changes::{add, close, new_set};
 use verdictreplies::inner::verdict::verdict;
 
 // Runs a call on the set and lays out its reply.
+// Kept with its parameters: docs/PROMISES.md names it, and it promises its answer on store and set of any length.
 pub fn run_set_record(
     call: SetRecord,
     store: &mut [u32],

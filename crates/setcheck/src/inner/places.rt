@@ -1,5 +1,6 @@
 // Where things stand in a set's 1,538 words, and the chains of keys in the scratch: they take the place
 // of the merge cache, which a merge clears before it begins.
+// Kept by no heap: words and chains by index in lent words, where Rattle has Vec and maps.
 
 pub const SET_WORDS: usize = 1538;
 

@@ -28,15 +28,11 @@ pub fn open_store<'a>(store: &'a [u32], scratch: &mut [u32]) -> Result<&'a Store
     Ok(store)
 }
 
-// Checks soundness, and that a context is known.
-pub fn admit(
-    store: &StoreWords,
-    scratch: &mut ScratchWords,
-    context: ContextId,
-) -> Result<(), Refusal>
+// Checks lengths, soundness and that a context is known.
+pub fn admit(store: &[u32], scratch: &mut [u32], context: ContextId) -> Result<(), Refusal>
     ensures { Admits store.now scratch.old context.0 result scratch.new }
 {
-    open_words(store, scratch)?;
+    let store = open_store(store, scratch)?;
     if context.0 < layout::count_of(store) {
         return Ok(());
     }

@@ -16,7 +16,6 @@ pub fn ask<'a>(
     ensures same { IfOk result (λ words. words.now ≡ store.now) }
 {
     let store = store.as_array().ok_or(Refusal::WrongLength)?;
-    let scratch = scratch.as_mut_array().ok_or(Refusal::WrongLength)?;
     admit(store, scratch, context)?;
     words::clear(scratch);
     Ok(store)

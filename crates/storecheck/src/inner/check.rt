@@ -1,5 +1,5 @@
 // One pass over a store's words that judges them and builds their index.
-ghost use Rattle.std.specs.Prelude.{◌≡◌, ◌≤◌};
+ghost use Rattle.std.specs.Prelude.{◌≤◌};
 ghost use Rattle.layout.specs.Layout.{most_contexts, most_entries};
 ghost use Rattle.recordcheck.specs.Check.{AllJudged, Passed, RootJudged, Tells, Unused, StoreJudged};
 
