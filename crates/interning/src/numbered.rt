@@ -1,6 +1,5 @@
 // The context that a call answers with.
-ghost use Rattle.std.specs.Prelude.{◌≡◌, ◌+◌, ◌≤◌};
-ghost use Rattle.layout.specs.Layout.{most_contexts};
+ghost use Rattle.std.specs.Prelude.{◌≡◌};
 
 use words::ContextId;
 
@@ -17,17 +16,5 @@ impl Numbered {
         ensures { result ≡ record { context = context; made = 0 } }
     {
         Numbered { context, made: 0 }
-    }
-
-    // The same, where `made` others were made before.
-    pub fn after(self, made: u32) -> Numbered
-        requires { (self.made ≤ 1) × (made ≤ most_contexts) }
-        ensures { result ≡ record self { made = made + self.made } }
-    {
-        let all = made + self.made;
-        Numbered {
-            context: self.context,
-            made: all,
-        }
     }
 }

@@ -4,6 +4,7 @@ ghost use Rattle.merging.specs.Standing.{Apart, Ended, Mergeable, Swallows, stat
 
 use entries::{entry, entry_count, intern_with_rest};
 use interning::Numbered;
+use interning::inner::counting::after;
 use layout::{Entry, ScratchWords, StoreWords};
 use words::{ContextId, Refusal};
 
@@ -72,7 +73,7 @@ fn merge_entries(
     while left_index < left_len {
         if right_len <= right_index {
             let ended = intern_with_rest(store, scratch, left, left_index, top, n, right)?;
-            return Ok(ended.after(made));
+            return Ok(after(ended, made));
         }
         let left_entry = entry(store, left, left_index);
         let right_entry = entry(store, right, right_index);
@@ -107,5 +108,5 @@ fn merge_entries(
         made += beneath.made;
     }
     let ended = intern_with_rest(store, scratch, right, right_index, top, n, left)?;
-    Ok(ended.after(made))
+    Ok(after(ended, made))
 }

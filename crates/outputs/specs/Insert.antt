@@ -7,7 +7,7 @@ use Prim.Native.Nat.{ℕ, zero, suc, ◌<◌, ◌≤◌, ◌+◌, ◌-◌, min}
 use native.Mathlib.Omega.{arith}
 use Rattle.std.proofs.Math.ListN.{length, get_or, take, set, replicate}
 use Rattle.std.proofs.lemmas.List.{set_split, take-set-le, drop-set-add}
-use Rattle.std.proofs.Math.Seq.{length-take-le, paste, take-append-le, take-take}
+use Rattle.std.proofs.Math.Seq.{length-take-le}
 use Rattle.std.proofs.lemmas.Bool.{lt-leb}
 use Rattle.words.specs.Numbers.{two, three}
 use Rattle.groups.specs.LayoutLayout.{blank}
@@ -279,24 +279,7 @@ module _ {o : List ℕ} {f n a : ℕ} (r : Row o f n a) where
           ∙ joined,
     )
 
--- the words moved up at once come to the gap, once its place is written
-pub moved_put : (o u : List ℕ) (k n m a : ℕ) → k + n < length o → m ≡ n → u ≡ paste o (k + 1) (drop k o) m → set u k a ≡ set (gap o k n) k a
-moved_put o u k n m a h e q =
-    let front : length (take (k + 1) o) ≡ k + 1 = length-take-le (k + 1) o (omega arith) in
-    let moved : List ℕ = take n (drop k o) ++ drop (k + 1 + n) o in
-    let w : List ℕ = take (k + 1) o ++ moved in
-    let j : k + 1 + n ≡ suc (k + n) = omega arith in
-    let one : suc k ≡ k + 1 = omega arith in
-    let whole : u ≡ w = q ∙ ap (λ (i : ℕ). paste o (k + 1) (drop k o) i) e ∙ append_assoc (take (k + 1) o) (take n (drop k o)) (drop (k + 1 + n) o) in
-    let size : k < length w = omega (arith, length-append (take (k + 1) o) moved) in
-    ap (λ (l : List ℕ). set l k a) whole
-    ∙ set_split w k a size
-    ∙ ap₂ (λ (l r : List ℕ). l ++ (a ∷ r))
-    (take-append-le k (take (k + 1) o) moved (omega arith) ∙ take-take k (k + 1) o (omega arith))
-    (drop_at (take (k + 1) o) moved (suc k) (front ∙ sym one) ∙ ap (λ (i : ℕ). take n (drop k o) ++ drop i o) j)
-    ∙ sym (gap_set o k n a h)
-
--- ---- one turn of the loop, which has come down to m
+-- ---- one turn of each loop, which has come down to m
 
 module _ (o : List ℕ) (m a : ℕ) (h : 0 < m) where
   prev : m ≡ suc (m - 1)
@@ -310,6 +293,15 @@ module _ (o : List ℕ) (m a : ℕ) (h : 0 < m) where
 
   pub seat_turn : a < get_or o (m - 1) 0 → seat_of o 0 m a ≡ seat_of o 0 (m - 1) a
   seat_turn k = ap (λ (i : ℕ). seat_of o 0 i a) prev ∙ seat_on o 0 (m - 1) a (rw place k)
+
+-- the words from place k on
+pub gap_turn : (o : List ℕ) (k m : ℕ) → 0 < m → gap o k m ≡ gap (set o (k + (m - 1) + 1) (get_or o (k + (m - 1)) 0)) k (m - 1)
+unfolding gap
+gap_turn o k m h =
+    let e : m ≡ suc (m - 1) = omega arith in
+    let i : k + suc (m - 1) ≡ k + (m - 1) + 1 = omega arith in
+    let j : k + suc (m - 1) - 1 ≡ k + (m - 1) = omega arith in
+    ap (gap o k) e ∙ ap₂ (λ (p q : ℕ). gap (set o p (get_or o q 0)) k (m - 1)) i j
 
 -- ---- as the code has it
 

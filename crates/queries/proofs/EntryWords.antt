@@ -1,5 +1,5 @@
 -- A known context of a sound store: what its record's words say of its entries, by kind. Nothing here has to be believed.
-use Rattle.std.specs.Prelude.{◌≡◌, true, List, [], ℕ, suc, ◌<◌, ◌≤◌, ◌+◌, ◌-◌, eqb, length}
+use Rattle.std.specs.Prelude.{◌≡◌, true, false, List, [], ℕ, suc, ◌<◌, ◌≤◌, ◌+◌, ◌-◌, eqb, length}
 use Rattle.std.proofs.Math.Path.{sym, ap}
 use Rattle.std.proofs.Common.{◌∙◌, arith, eq-eqb, ne_eqb}
 use Rattle.words.specs.Names.{empty_mark}
@@ -72,15 +72,15 @@ module _ {w : List ℕ} {c : ℕ} (k : Known w c) where
 
   -- exactly the set of the empty stack: context 0 alone
 
-  empty_is : c ≡ 0 → is_mark (tree (store_of w) c) ≡ true
+  pub empty_is : c ≡ 0 → is_mark (tree (store_of w) c) ≡ true
   unfolding is_mark
   empty_is e = ap (λ (x : ℕ). is_mark (tree (store_of w) x)) e ∙ ap is_mark (tree_root (store_of w) good (omega (arith, inside)))
 
+  pub empty_not : (c ≡ 0 → ⊥) → is_mark (tree (store_of w) c) ≡ false
+  empty_not n = not_root (store_of w) good c inside (omega arith)
+
   pub empty_test : is_mark (tree (store_of w) c) ≡ eqb c 0
-  empty_test =
-      two c 0
-      (λ e. empty_is e ∙ sym (eq-eqb c 0 e))
-      (λ n. not_root (store_of w) good c inside (omega arith) ∙ sym (ne_eqb c 0 n))
+  empty_test = two c 0 (λ e. empty_is e ∙ sym (eq-eqb c 0 e)) (λ n. empty_not n ∙ sym (ne_eqb c 0 n))
 
   -- the empty stack is in the set
 

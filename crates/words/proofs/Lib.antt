@@ -1,3 +1,2 @@
--- The arithmetic behind the code, apart from any one function: bits of words, and parts of lent words.
+-- The arithmetic behind the code, apart from any one function: bits of words.
 mod Bits
-mod Parts

@@ -7,23 +7,30 @@ ghost use Rattle.words.specs.Lent.{all_zero, cleared_range, copied_range};
 pub fn clear(words: &mut [u32])
     ensures { words.new ≡ replicate (length words.old) 0 }
 {
-    words.fill(0);
+    let end = words.len();
+    clear_range(words, 0, end);
 }
 
 // Sets the words from `from` up to, not including, `to` to 0.
+// By a loop: the library's `fill` costs a few words as much again (docs/DESIGN-PASS.md).
 pub fn clear_range(words: &mut [u32], from: usize, to: usize)
     requires { (from ≤ to) × (to ≤ length words.old) }
     ensures { words.new ≡ cleared_range words.old from to }
 {
-    words[from..to].fill(0);
+    for i in from..to {
+        words[i] = 0;
+    }
 }
 
 // Copies `count` words of source, from `from` on, over those of target from `at` on.
+// By a loop: with the library's copy a C archive asks for `memmove` from outside.
 pub fn copy_range(target: &mut [u32], at: usize, source: &[u32], from: usize, count: usize)
     requires { (at + count ≤ length target.old) × (from + count ≤ length source.now) }
     ensures { target.new ≡ copied_range target.old at source.now from count }
 {
-    target[at..at + count].copy_from_slice(&source[from..from + count]);
+    for done in 0..count {
+        target[at + done] = source[from + done];
+    }
 }
 
 // Are all words from `from` up to, not including, `to` 0? All of them are read, without a way out

@@ -72,7 +72,7 @@ module _ (n : ℕ) where
       (λ h. entry_says (payload_of k) (table_small k h))
       (λ h. entry_says (payload_of k) (ap small (unknown_kind k h)))
 
-  -- the three ways out of the code that looks a kind up
+  -- the three ways out of code that looks a kind up in such a table
   module _ (k e : ℕ) (q : e ≡ entry (payload_of k)) where
     pub kind_unknown : no_kind ≤ e → accepts (payload_of k) n ≡ false
     unfolding entry_accepts

@@ -27,11 +27,14 @@ fn ends_in(row: &[u32], alternative: u32) -> bool
 }
 
 // Moves `count` words, from `at` on, up by one, and puts an alternative into the gap.
+// By a loop: with the library's `copy_within` many falling alternatives take twice the time.
 fn put_in(words: &mut [u32], at: usize, count: usize, alternative: u32)
     requires { at + count < length words.old }
     ensures { words.new ≡ set (gap words.old at count) at alternative }
 {
-    words.copy_within(at..at + count, at + 1);
+    for left in (0..count).rev() {
+        words[at + left + 1] = words[at + left];
+    }
     words[at] = alternative;
 }
 

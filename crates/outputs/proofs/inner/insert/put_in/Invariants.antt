@@ -1,0 +1,8 @@
+-- From the last word on, each moves up; `gap` is what they come to.
+use mathlib.Core.Path.{◌≡◌}
+use lib.ListN.{length}
+use Rattle.outputs.specs.Insert.{gap}
+use Rattle.outputs.proofs.inner.insert.put_in.Given as goal
+
+abbrev pub invariant-loop-left : goal.invariant-loop-left
+invariant-loop-left l = (length l.words ≡ length l.initial.words) × (gap l.initial.words l.at l.count ≡ gap l.words l.at l.left)
