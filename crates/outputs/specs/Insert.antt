@@ -214,6 +214,10 @@ module _ {o : List ℕ} {f n a : ℕ} (r : Row o f n a) where
   held : (i : ℕ) → i < length xs → get_or o (f + i) 0 ≡ get_or xs i 0
   held i h = sym (get_or-take n (drop f o) i 0 (omega (arith, xs_length)) ∙ get_or-drop f o i 0)
 
+  -- the seat that the code finds
+  pub row_seat : seat_of o f n a ≡ p
+  row_seat = ap (λ (m : ℕ). seat_of o f m a) (sym xs_length) ∙ seat_below o f xs a r.rises held
+
   pub seat_most : p ≤ n
   seat_most = omega (arith, below_most a xs, xs_length)
 
@@ -279,99 +283,55 @@ module _ {o : List ℕ} {f n a : ℕ} (r : Row o f n a) where
           ∙ joined,
     )
 
--- ---- one turn of each loop, which has come down to m
+-- ---- one turn of each loop
 
-module _ (o : List ℕ) (m a : ℕ) (h : 0 < m) where
+module _ (o : List ℕ) (f m a : ℕ) (h : 0 < m) where
   prev : m ≡ suc (m - 1)
   prev = omega arith
 
-  place : 0 + suc (m - 1) - 1 ≡ m - 1
-  place = omega arith
+  pub seat_stop : get_or o (f + m - 1) 0 ≤ a → seat_of o f m a ≡ m
+  seat_stop k = ap (λ (i : ℕ). seat_of o f i a) prev ∙ seat_here o f (m - 1) a (rw (← prev) k) ∙ sym prev
 
-  pub seat_stop : get_or o (m - 1) 0 ≤ a → seat_of o 0 m a ≡ m - 1 + 1
-  seat_stop k = ap (λ (i : ℕ). seat_of o 0 i a) prev ∙ seat_here o 0 (m - 1) a (rw place k) ∙ omega arith
+  pub seat_turn : a < get_or o (f + m - 1) 0 → seat_of o f m a ≡ seat_of o f (m - 1) a
+  seat_turn k = ap (λ (i : ℕ). seat_of o f i a) prev ∙ seat_on o f (m - 1) a (rw (← prev) k)
 
-  pub seat_turn : a < get_or o (m - 1) 0 → seat_of o 0 m a ≡ seat_of o 0 (m - 1) a
-  seat_turn k = ap (λ (i : ℕ). seat_of o 0 i a) prev ∙ seat_on o 0 (m - 1) a (rw place k)
-
--- the words from place k on
-pub gap_turn : (o : List ℕ) (k m : ℕ) → 0 < m → gap o k m ≡ gap (set o (k + (m - 1) + 1) (get_or o (k + (m - 1)) 0)) k (m - 1)
-unfolding gap
-gap_turn o k m h =
-    let e : m ≡ suc (m - 1) = omega arith in
-    let i : k + suc (m - 1) ≡ k + (m - 1) + 1 = omega arith in
-    let j : k + suc (m - 1) - 1 ≡ k + (m - 1) = omega arith in
-    ap (gap o k) e ∙ ap₂ (λ (p q : ℕ). gap (set o p (get_or o q 0)) k (m - 1)) i j
+  pub gap_turn : gap o f m ≡ gap (set o (f + m) (get_or o (f + m - 1) 0)) f (m - 1)
+  unfolding gap
+  gap_turn = ap (gap o f) prev ∙ ap (λ (i : ℕ). gap (set o (f + i) (get_or o (f + i - 1) 0)) f (m - 1)) (sym prev)
 
 -- ---- as the code has it
 
-pub ends_none : (o : List ℕ) (a : ℕ) → length o ≤ 0 → false ≡ ends_in o 0 (length o) a
+ends_true : (o : List ℕ) (f n a : ℕ) → ends_in o f n a ≡ true → (0 < n) × (get_or o (f + n - 1) 0 ≡ a)
 unfolding ends_in
-ends_none o a h = rw (eq-eqb (length o) 0 (omega arith), ends_in)
+ends_true o f n a e =
+    two n 0
+    (λ z. never_both e (rw (eq-eqb n 0 z, ends_in)))
+    (λ z. (omega arith, eqb-true (get_or o (f + n - 1) 0) a (rw (ne_eqb n 0 z, ends_in) at e)))
 
-pub ends_some : (o : List ℕ) (x a : ℕ) → 0 < length o → x ≡ get_or o (length o - 1) 0 → eqb x a ≡ ends_in o 0 (length o) a
+ends_false : (o : List ℕ) (f n a : ℕ) → ends_in o f n a ≡ false → 0 < n → get_or o (f + n - 1) 0 ≡ a → ⊥
 unfolding ends_in
-ends_some o x a h e =
-    let i : 0 + length o - 1 ≡ length o - 1 = omega arith in
-    rw (ne_eqb (length o) 0 (omega arith), ends_in) (ap (λ (y : ℕ). eqb y a) (e ∙ ap (λ (j : ℕ). get_or o j 0) (sym i)))
-
--- over m words from place f on
-module _ (o : List ℕ) (f m a : ℕ) (h : f + m ≤ length o) where
-  part_length : length (part o f m) ≡ m
-  part_length = length-take m (drop f o) ∙ omega (arith, length-drop f o)
-
-  part_last : 0 < m → get_or (part o f m) (0 + length (part o f m) - 1) 0 ≡ get_or o (f + m - 1) 0
-  part_last l =
-      let i : 0 + length (part o f m) - 1 ≡ m - 1 = omega (arith, part_length) in
-      let j : f + (m - 1) ≡ f + m - 1 = omega arith in
-      ap (λ (k : ℕ). get_or (part o f m) k 0) i ∙ get_or-take m (drop f o) (m - 1) 0 (omega arith) ∙ get_or-drop f o (m - 1) 0 ∙ ap (λ (k : ℕ). get_or o k 0) j
-
-  ends_true : ends_in (part o f m) 0 (length (part o f m)) a ≡ true → (0 < m) × (get_or o (f + m - 1) 0 ≡ a)
-  unfolding ends_in
-  ends_true e =
-      two (length (part o f m)) 0
-      (λ z. never_both e (rw (eq-eqb (length (part o f m)) 0 z, ends_in)))
-      (λ z.
-      let l : 0 < m = omega (arith, part_length) in
-      (l, sym (part_last l) ∙ eqb-true (get_or (part o f m) (0 + length (part o f m) - 1) 0) a (rw (ne_eqb (length (part o f m)) 0 z, ends_in) at e)))
-
-  ends_false : ends_in (part o f m) 0 (length (part o f m)) a ≡ false → 0 < m → get_or o (f + m - 1) 0 ≡ a → ⊥
-  unfolding ends_in
-  ends_false e l q =
-      never_both (rw (ne_eqb (length (part o f m)) 0 (omega (arith, part_length)), ends_in)
-      (eq-eqb (get_or (part o f m) (0 + length (part o f m) - 1) 0) a (part_last l ∙ q))) e
+ends_false o f n a e h q = never_both (rw (ne_eqb n 0 (omega arith), ends_in) (eq-eqb (get_or o (f + n - 1) 0) a q)) e
 
 -- what insertion leaves: m is how many words there are then, u the words
 abbrev pub Inserted : List ℕ → ℕ → ℕ → ℕ → ℕ → List ℕ → Type 0
 Inserted o f n a m u = (m ≡ length (insert a (part o f n))) × (u ≡ row_with o f (insert a (part o f n)))
 
--- the seat that the code finds among the words of the row
-module _ {o : List ℕ} {f n a : ℕ} (r : Row o f n a) {s : ℕ} (e : s ≡ seat_of (part o f (f + n - f)) 0 (length (part o f (f + n - f))) a) where
+module _ {o : List ℕ} {f n a : ℕ} (r : Row o f n a) {s : ℕ} (e : s ≡ seat_of o f n a) where
   at_seat : s ≡ below a (part o f n)
-  at_seat =
-      let q : f + n - f ≡ n = omega arith in
-      e ∙ ap (λ (k : ℕ). seat_of (part o f k) 0 (length (part o f k)) a) q
-      ∙ seat_below (part o f n) 0 (part o f n) a r.rises (λ i h. let p : 0 + i ≡ i = omega arith in ap (λ (k : ℕ). get_or (part o f n) k 0) p)
+  at_seat = e ∙ row_seat r
 
   pub seat_few : s ≤ n
   seat_few = omega (arith, at_seat, seat_most r)
 
-  within_row : f + s ≤ length o
-  within_row = omega (arith, seat_few, r.within)
+  pub insert_known : {b : Bool} → b ≡ ends_in o f s a → b ≡ true → Inserted o f n a n o
+  insert_known d h = let q = ends_true o f s a (sym d ∙ h) in row_there r (rw at_seat at q.0) (rw at_seat at q.1)
 
-  module _ {b : Bool} (d : b ≡ ends_in (part o f (f + s - f)) 0 (length (part o f (f + s - f))) a) where
-    told : b ≡ ends_in (part o f s) 0 (length (part o f s)) a
-    told = let q : f + s - f ≡ s = omega arith in d ∙ ap (λ (k : ℕ). ends_in (part o f k) 0 (length (part o f k)) a) q
+  module _ {b : Bool} (d : b ≡ ends_in o f s a) (h : b ≡ false) where
+    absent : 0 < below a (part o f n) → get_or o (f + below a (part o f n) - 1) 0 ≡ a → ⊥
+    absent = rw at_seat at (ends_false o f s a (sym d ∙ h))
 
-    pub insert_known : b ≡ true → Inserted o f n a n o
-    insert_known h = let q = ends_true o f s a within_row (sym told ∙ h) in row_there r (rw at_seat at q.0) (rw at_seat at q.1)
+    pub insert_room : f + s + (n - s) < length o
+    insert_room = rw at_seat (row_room r absent)
 
-    module _ (h : b ≡ false) where
-      absent : 0 < below a (part o f n) → get_or o (f + below a (part o f n) - 1) 0 ≡ a → ⊥
-      absent = rw at_seat at (ends_false o f s a within_row (sym told ∙ h))
-
-      pub insert_room : f + s + (n - s) < length o
-      insert_room = rw at_seat (row_room r absent)
-
-      pub insert_unknown : {u : List ℕ} → u ≡ set (gap o (f + s) (n - s)) (f + s) a → Inserted o f n a (n + 1) u
-      insert_unknown q = let w = row_new r absent in (w.0, q ∙ rw at_seat w.1)
+    pub insert_unknown : {u : List ℕ} → u ≡ set (gap o (f + s) (n - s)) (f + s) a → Inserted o f n a (n + 1) u
+    insert_unknown q = let w = row_new r absent in (w.0, q ∙ rw at_seat w.1)

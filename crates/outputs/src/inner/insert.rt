@@ -1,39 +1,46 @@
 // An alternative put where it belongs among rising words. The way is from the right, since alternatives mostly
 // come rising.
-ghost use Rattle.std.specs.Prelude.{◌≡◌, ◌+◌, ◌<◌, length, set};
+// Kept by hand, two loops that count down over place and length: by `for`, slices or the library's `copy_within`
+// many falling alternatives take half as long again or more (docs/DESIGN-PASS.md).
+ghost use Rattle.std.specs.Prelude.{◌≡◌, ◌+◌, ◌<◌, ◌≤◌, length, set};
 ghost use Rattle.groups.specs.Groups.{insert};
 ghost use Rattle.outputs.specs.Insert.{Row, ends_in, gap, part, row_with, seat_of};
 
-// How many of rising words are not above an alternative.
-fn seat(row: &[u32], alternative: u32) -> usize
-    ensures { result ≡ seat_of row.now 0 (length row.now) alternative }
+// How many of `count` rising words, from `from` on, are not above an alternative.
+fn seat(words: &[u32], from: usize, count: usize, alternative: u32) -> usize
+    requires { from + count ≤ length words.now }
+    ensures { result ≡ seat_of words.now from count alternative }
 {
-    for left in (0..row.len()).rev() {
-        if row[left] <= alternative {
-            return left + 1;
+    let mut left = count;
+    while 0 < left {
+        if words[from + left - 1] <= alternative {
+            return left;
         }
+        left -= 1;
     }
     0
 }
 
-// Is an alternative the last word?
-fn ends_in(row: &[u32], alternative: u32) -> bool
-    ensures { result ≡ ends_in row.now 0 (length row.now) alternative }
+// Is an alternative the last of `count` words, from `from` on?
+fn ends_in(words: &[u32], from: usize, count: usize, alternative: u32) -> bool
+    requires { from + count ≤ length words.now }
+    ensures { result ≡ ends_in words.now from count alternative }
 {
-    let Some(&last) = row.last() else {
+    if count == 0 {
         return false;
-    };
-    last == alternative
+    }
+    words[from + count - 1] == alternative
 }
 
 // Moves `count` words, from `at` on, up by one, and puts an alternative into the gap.
-// By a loop: with the library's `copy_within` many falling alternatives take twice the time.
 fn put_in(words: &mut [u32], at: usize, count: usize, alternative: u32)
     requires { at + count < length words.old }
     ensures { words.new ≡ set (gap words.old at count) at alternative }
 {
-    for left in (0..count).rev() {
-        words[at + left + 1] = words[at + left];
+    let mut left = count;
+    while 0 < left {
+        words[at + left] = words[at + left - 1];
+        left -= 1;
     }
     words[at] = alternative;
 }
@@ -44,8 +51,8 @@ pub fn insert_alt(words: &mut [u32], from: usize, count: usize, alternative: u32
     ensures { (result ≡ length (insert alternative (part words.old from count)))
         × (words.new ≡ row_with words.old from (insert alternative (part words.old from count))) }
 {
-    let place = seat(&words[from..from + count], alternative);
-    if ends_in(&words[from..from + place], alternative) {
+    let place = seat(words, from, count, alternative);
+    if ends_in(words, from, place, alternative) {
         return count;
     }
     put_in(words, from + place, count - place, alternative);

@@ -1,12 +1,12 @@
--- The last word is compared, if there is one.
-use native.Mathlib.Omega.{arith}
-use Rattle.outputs.specs.Insert.{ends_none, ends_some}
+-- One comparison, if there is a word.
+use borrow.Author.Tests.{eq-eqb, ne_eqb}
+use Rattle.outputs.specs.Insert.{ends_in}
 use Rattle.outputs.proofs.inner.insert.ends_in.Goals as goal
 
-pub returns-in_default : goal.returns-in_default
-returns-in_default c = ends_none c.args.row.now c.args.alternative c.in_default.ensures.item.3
+pub returns-then-count-eq0 : goal.returns-then-count-eq0
+unfolding ends_in
+returns-then-count-eq0 c = rw (eq-eqb c.args.count 0 c.if-count-eq0.true, ends_in)
 
 pub returns : goal.returns
-returns c =
-    let i = c.in-Some.ensures.item in
-    ends_some c.args.row.now c.in-Some.field-0.now c.args.alternative i.3.0 (i.4 (omega arith) 0)
+unfolding ends_in
+returns c = rw (ne_eqb c.args.count 0 c.if-count-eq0.false, ends_in)

@@ -3,23 +3,42 @@ use native.Mathlib.Omega.{arith}
 use Rattle.outputs.specs.Insert.{seat_few, insert_known, insert_room, insert_unknown}
 use Rattle.outputs.proofs.inner.insert.insert_alt.Goals as goal
 
-pub overflow_add-from-2 : goal.overflow_add-from-2
-overflow_add-from-2 c = omega (arith, c.requires.within, seat_few c.requires c.seat-place.ensures)
-
-pub slice_bounds-ends_in-end : goal.slice_bounds-ends_in-end
-slice_bounds-ends_in-end c = omega (arith, c.requires.within, seat_few c.requires c.seat-place.ensures)
+pub ends_in-requires : goal.ends_in-requires
+ends_in-requires c =
+    let pre = c.requires in
+    omega (arith, pre.within, seat_few pre c.seat-place.ensures)
 
 pub returns-then-ends_in : goal.returns-then-ends_in
 returns-then-ends_in c =
-    insert_known c.requires c.seat-place.ensures c.ends_in.ensures c.if-ends_in.true
+    let pre = c.requires in
+    let seat = c.seat-place in
+    insert_known pre seat.ensures c.ends_in.ensures c.if-ends_in.true
+
+pub overflow_add-from : goal.overflow_add-from
+overflow_add-from c =
+    let ends-in = c.ends_in in
+    let pre = c.requires in
+    let seat = c.seat-place in
+    omega (arith, insert_room pre seat.ensures ends-in.ensures c.if-ends_in.false)
 
 pub overflow_sub-count : goal.overflow_sub-count
-overflow_sub-count c = omega (arith, seat_few c.requires c.seat-place.ensures)
+overflow_sub-count c =
+    let pre = c.requires in
+    let seat = c.seat-place in
+    omega (arith, seat_few pre seat.ensures)
 
 pub put_in-requires : goal.put_in-requires
 put_in-requires c =
-    insert_room c.requires c.seat-place.ensures c.ends_in.ensures c.if-ends_in.false
+    let ends-in = c.ends_in in
+    let pre = c.requires in
+    let seat = c.seat-place in
+    insert_room pre seat.ensures ends-in.ensures c.if-ends_in.false
 
 pub returns : goal.returns
 returns c =
-    insert_unknown c.requires c.seat-place.ensures c.ends_in.ensures c.if-ends_in.false c.put_in.ensures
+    let ends-in = c.ends_in in
+    let if1 = c.if-ends_in in
+    let pre = c.requires in
+    let put_in = c.put_in in
+    let seat = c.seat-place in
+    insert_unknown pre seat.ensures ends-in.ensures if1.false put_in.ensures

@@ -9,7 +9,7 @@ pub loop-left-preserved : goal.loop-left-preserved
 loop-left-preserved c =
     let args = c.args in
     let loop = c.loop-left in
-    (simp length-set loop.invariant.0, loop.invariant.1 ∙ gap_turn loop.words args.at loop.left c.loop-left-test.true)
+    (omega arith, simp length-set loop.invariant.1, loop.invariant.2 ∙ gap_turn loop.words args.at loop.left 0 c.loop-left-test.true)
 
 pub returns : goal.returns
 unfolding gap
@@ -17,4 +17,4 @@ returns c =
     let args = c.args in
     let loop = c.loop-left in
     let e : loop.left ≡ 0 = omega (arith, c.loop-left-test.false) in
-    ap (λ l. set l args.at args.alternative) (sym (loop.invariant.1 ∙ ap (gap loop.words args.at) e))
+    ap (λ l. set l args.at args.alternative) (sym (loop.invariant.2 ∙ ap (gap loop.words args.at) e))
